@@ -1,0 +1,4 @@
+pub mod Counts
+pub mod Below
+pub mod Paths
+pub mod Orbits

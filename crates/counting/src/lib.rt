@@ -1,0 +1,1 @@
+// Finite counting, paths, permutations and their orbits; no function.

@@ -1,0 +1,3 @@
+pub mod Digraph
+pub mod Relaxed
+pub mod Visits

@@ -1,0 +1,4 @@
+pub mod Draw
+pub mod Write
+pub mod Points
+pub mod Clear

@@ -1,0 +1,4 @@
+pub mod Lines
+pub mod Reaching
+pub mod Changes
+pub mod Calls

@@ -1,0 +1,4 @@
+pub mod Keys
+pub mod Rings
+pub mod Load
+pub mod Write

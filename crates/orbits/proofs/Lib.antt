@@ -1,0 +1,6 @@
+pub mod Turns
+pub mod Stores
+pub mod Walks
+pub mod Numbering
+pub mod Distinct
+pub mod Examples

@@ -1,0 +1,12 @@
+pub mod Laws
+pub mod Corners
+pub mod Ends
+pub mod Frontier
+pub mod Order
+pub mod Columns
+pub mod Chain
+pub mod Contact
+pub mod Spans
+pub mod Points
+pub mod Rotation
+pub mod Example

@@ -1,0 +1,58 @@
+-- The sheet record read as a directed graph with a clockwise order of the darts at each vertex. (Document 01's bar is a vertex, its wire an edge, its end a dart.)
+use Prim.Native.Nat.{ℕ, _+_, _-_, _*_, _/_, _%_}
+use mathlib.Core.Path.{_≡_}
+use mathlib.Core.Bool.{Bool, cond, _||_}
+use lib.Dec.{eqb}
+use lib.ListN.{getD, length}
+use Rattle.sheet.specs.declared.Sheet.{Sheet}
+
+-- what the record's arrays have by their type
+pub record Sized (s : Sheet) : Type 0 where
+  pub tails : length (s .tails) ≡ 256
+  pub heads : length (s .heads) ≡ 256
+  pub nexts : length (s .nexts) ≡ 512
+
+-- the tail bar and the head bar of wire k
+abbrev pub tail : Sheet → ℕ → ℕ
+tail s k = getD (s .tails) k 0
+
+abbrev pub head : Sheet → ℕ → ℕ
+head s k = getD (s .heads) k 0
+
+-- wire k has two ends: end 2k at its tail, end 2k + 1 at its head
+abbrev pub tailDart : ℕ → ℕ
+tailDart k = 2 * k
+
+abbrev pub headDart : ℕ → ℕ
+headDart k = 2 * k + 1
+
+abbrev pub darts : Sheet → ℕ
+darts s = 2 * s .edges
+
+-- whether an end is its wire's tail end
+abbrev pub isTail : ℕ → Bool
+isTail d = eqb (d % 2) 0
+
+-- the other end of the same wire
+unfoldable pub opposite : ℕ → ℕ
+opposite d = cond (isTail d) (d + 1) (d - 1)
+
+-- the bar of an end
+unfoldable pub vertex : Sheet → ℕ → ℕ
+vertex s d = cond (isTail d) (tail s (d / 2)) (head s (d / 2))
+
+-- wire k has an end at bar v
+unfoldable pub touches : Sheet → ℕ → ℕ → Bool
+touches s k v = eqb (tail s k) v || eqb (head s k) v
+
+-- that end
+unfoldable pub dartAt : Sheet → ℕ → ℕ → ℕ
+dartAt s k v = cond (eqb (tail s k) v) (tailDart k) (headDart k)
+
+-- the next end clockwise at the same bar
+abbrev pub next : Sheet → ℕ → ℕ
+next s d = getD (s .nexts) d 0
+
+-- The walk: it leaves a bar by end d, arrives at a bar by the other end of the wire, and leaves by the next end clockwise at that bar.
+abbrev pub walk : Sheet → ℕ → ℕ
+walk s d = next s (opposite d)

@@ -1,0 +1,7 @@
+pub mod Answers
+pub mod Refusals
+pub mod Darts
+pub mod Fresh
+pub mod Sound
+pub mod Levels
+pub mod Check

@@ -1,0 +1,13 @@
+pub mod Tests
+pub mod Darts
+pub mod Clauses
+pub mod Rings
+pub mod Levels
+pub mod Faces
+pub mod Refusals
+pub mod Judge
+pub mod Law
+pub mod Rows
+pub mod Plane
+pub mod Columns
+pub mod Fresh

@@ -1,0 +1,20 @@
+-- A sheet read as a map of darts.
+use Rattle.plane.specs.Map.{Map}
+use Rattle.sheet.specs.declared.Sheet.{Sheet}
+use Rattle.sheet.specs.Darts.{darts, opposite, next, isTail, vertex}
+use Rattle.sheet.specs.Check.{faceCount, face, row}
+
+abbrev pub mapOf : Sheet → Map
+mapOf s = record {
+  darts = darts s;
+  vertices = s .vertices;
+  edges = s .edges;
+  faces = faceCount s;
+  root = 0;
+  opposite = opposite;
+  next = next s;
+  out = isTail;
+  vertex = vertex s;
+  face = face s;
+  row = row s;
+}

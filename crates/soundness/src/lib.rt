@@ -1,0 +1,1 @@
+// What a sound sheet is: theory, with no functions.

@@ -1,0 +1,10 @@
+pub mod Insert
+pub mod Swap
+pub mod Edge
+pub mod Grow
+pub mod Add
+pub mod Subdivide
+pub mod Delete
+pub mod Smooth
+pub mod Renumber
+pub mod Trial

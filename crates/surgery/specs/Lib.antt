@@ -1,0 +1,4 @@
+pub mod Darts
+pub mod Edits
+pub mod Renumber
+pub mod Statements

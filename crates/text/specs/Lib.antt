@@ -1,0 +1,5 @@
+pub mod Bytes
+pub mod Written
+pub mod Reading
+pub mod Shapes
+pub mod Layout

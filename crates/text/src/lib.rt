@@ -1,0 +1,286 @@
+// Numbers, keys and line ends of the text layouts, read from bytes and written to bytes.
+ghost use mathlib.Core.Path.{_≡_};
+ghost use mathlib.Core.Bool.{cond};
+ghost use mathlib.Core.List.{[], _∷_};
+ghost use Prim.Native.Nat.{_+_, _<_, _≤_};
+ghost use lib.ListN.{length, getD, take, drop, set};
+ghost use lib.Seq.{sets};
+ghost use Rattle.text.specs.Written.{decimal, lineEnd, line};
+ghost use Rattle.text.specs.Reading.{digitAt, numberAt, startsWith, lineEndAt, unlisted, numbersAt, lineAt, lastLineAt, numbersOf};
+
+// A number that stands at a place of the text, with the place after it, or none.
+pub enum Number {
+    Value(u16, usize),
+    Missing,
+}
+
+// The numbers of a line, or none where the line is not of the layout: how many there are,
+// the first four of them (0 where there are fewer), and the place after the line.
+pub struct Numbers {
+    pub found: bool,
+    pub count: usize,
+    pub values: [u16; 4],
+    pub next: usize,
+}
+
+// The byte at a place, 0 past the end.
+fn byte(s: &[u8], at: usize) -> u8
+    ensures { λ r. ⌜ r ≡ getD (now (s .entry)) at 0 ⌝ }
+{
+    if s.len() <= at {
+        return 0;
+    }
+    s[at]
+}
+
+// The value of the digit at a place, or 10 where there is none.
+fn digit(s: &[u8], at: usize) -> u16
+    ensures { λ r. ⌜ r ≡ digitAt (now (s .entry)) at ⌝ }
+{
+    let b = byte(s, at);
+    if b < 48 {
+        return 10;
+    }
+    if 57 < b {
+        return 10;
+    }
+    (b - 48) as u16
+}
+
+// The number at a place: one to three digits, no leading zero except 0 itself.
+pub fn number_at(s: &[u8], at: usize) -> Number
+    ensures { λ r. ⌜ r ≡ numberAt (now (s .entry)) at ⌝ }
+{
+    let a = digit(s, at);
+    if 10 <= a {
+        return Number::Missing;
+    }
+    let one = at + 1;
+    let b = digit(s, one);
+    if 10 <= b {
+        return Number::Value(a, one);
+    }
+    if a == 0 {
+        return Number::Missing;
+    }
+    let two = at + 2;
+    let c = digit(s, two);
+    if 10 <= c {
+        return Number::Value(a * 10 + b, two);
+    }
+    let three = at + 3;
+    let d = digit(s, three);
+    if 10 <= d {
+        return Number::Value(a * 100 + b * 10 + c, three);
+    }
+    Number::Missing
+}
+
+// Whether a key stands at a place.
+pub fn starts_with(s: &[u8], at: usize, key: &[u8]) -> bool
+    ensures { λ r. ⌜ r ≡ startsWith (now (key .entry)) (drop at (now (s .entry))) ⌝ }
+{
+    let mut i = at;
+    let mut j = 0;
+    while j < key.len() {
+        if s.len() <= i {
+            return false;
+        }
+        if s[i] != key[j] {
+            return false;
+        }
+        i += 1;
+        j += 1;
+    }
+    true
+}
+
+// How many bytes a line end at a place has, 0 where there is none.
+pub fn line_end(s: &[u8], at: usize) -> usize
+    ensures { λ r. ⌜ r ≡ lineEndAt (now (s .entry)) at ⌝ }
+{
+    if byte(s, at) == 10 {
+        return 1;
+    }
+    0
+}
+
+// The answer where there is no line of the layout.
+fn none() -> Numbers
+    ensures { λ r. ⌜ r ≡ numbersOf unlisted ⌝ }
+{
+    Numbers {
+        found: false,
+        count: 0,
+        values: [0; 4],
+        next: 0,
+    }
+}
+
+// A number kept as the one of its count, if it is among the first four.
+fn keep(values: [u16; 4], count: usize, v: u16) -> [u16; 4]
+    ensures { λ r. ⌜ r ≡ set values count v ⌝ }
+{
+    let mut kept = values;
+    if count < 4 {
+        kept[count] = v;
+    }
+    kept
+}
+
+// The numbers at a place, a comma between, of any count.
+pub fn numbers_at(s: &[u8], at: usize) -> Numbers
+    ensures { λ r. ⌜ r ≡ numbersOf (numbersAt (now (s .entry)) at) ⌝ }
+{
+    let mut values = [0u16; 4];
+    let mut count = 0;
+    let mut i = at;
+    loop {
+        let read = number_at(s, i);
+        match read {
+            Number::Missing => return none(),
+            Number::Value(v, next) => {
+                let kept = keep(values, count, v);
+                values = kept;
+                count += 1;
+                if byte(s, next) != 44 {
+                    return Numbers {
+                        found: true,
+                        count,
+                        values,
+                        next,
+                    };
+                }
+                i = next + 1;
+            }
+        }
+    }
+}
+
+// A whole line: a key, its numbers, and its end, which may be the end of the text if the line may be the last.
+fn shape(s: &[u8], at: usize, key: &[u8], last: bool) -> Numbers
+    ensures { λ r. ⌜ r ≡ numbersOf (cond last (lastLineAt (now (key .entry)) (now (s .entry)) at) (lineAt (now (key .entry)) (now (s .entry)) at)) ⌝ }
+{
+    if !starts_with(s, at, key) {
+        return none();
+    }
+    let read = numbers_at(s, at + key.len());
+    if !read.found {
+        return none();
+    }
+    let next = read.next;
+    let end = line_end(s, next);
+    if end == 0 {
+        if !last {
+            return none();
+        }
+        if next < s.len() {
+            return none();
+        }
+        return read;
+    }
+    let values = read.values;
+    Numbers {
+        found: true,
+        count: read.count,
+        values,
+        next: next + end,
+    }
+}
+
+// A whole line: the key, numbers with a comma between, the line's end.
+pub fn line(s: &[u8], at: usize, key: &[u8]) -> Numbers
+    ensures { λ r. ⌜ r ≡ numbersOf (lineAt (now (key .entry)) (now (s .entry)) at) ⌝ }
+{
+    shape(s, at, key, false)
+}
+
+// The same of a line that may be the text's last and lack its end.
+pub fn last_line(s: &[u8], at: usize, key: &[u8]) -> Numbers
+    ensures { λ r. ⌜ r ≡ numbersOf (lastLineAt (now (key .entry)) (now (s .entry)) at) ⌝ }
+{
+    shape(s, at, key, true)
+}
+
+// How many digits a number has.
+pub fn digits(v: u16) -> usize
+    ensures { λ r. ⌜ r ≡ length (decimal v) ⌝ }
+{
+    if v < 10 {
+        return 1;
+    }
+    if v < 100 {
+        return 2;
+    }
+    3
+}
+
+// Puts bytes at a place of the buffer, and returns the place after them.
+pub fn put_bytes(out: &mut [u8], at: usize, bytes: &[u8]) -> usize
+    requires { ⌜ at + length (now bytes) ≤ length (now out) ⌝ }
+    ensures { λ r. ⌜ (r ≡ at + length (now (bytes .entry))) × (now (out .exit) ≡ sets (now (out .entry)) at (now (bytes .entry))) ⌝ }
+{
+    let mut i = at;
+    let mut j = 0;
+    while j < bytes.len() {
+        out[i] = bytes[j];
+        i += 1;
+        j += 1;
+    }
+    i
+}
+
+// Puts a number's digits.
+pub fn put_number(out: &mut [u8], at: usize, v: u16) -> usize
+    requires { ⌜ at + length (decimal v) ≤ length (now out) ⌝ }
+    ensures { λ r. ⌜ (r ≡ at + length (decimal v)) × (now (out .exit) ≡ sets (now (out .entry)) at (decimal v)) ⌝ }
+{
+    if v < 10 {
+        out[at] = (v % 10) as u8 + 48;
+        return at + 1;
+    }
+    if v < 100 {
+        out[at] = (v / 10 % 10) as u8 + 48;
+        out[at + 1] = (v % 10) as u8 + 48;
+        return at + 2;
+    }
+    out[at] = (v / 100 % 10) as u8 + 48;
+    out[at + 1] = (v / 10 % 10) as u8 + 48;
+    out[at + 2] = (v % 10) as u8 + 48;
+    at + 3
+}
+
+// Puts a comma and a number.
+pub fn put_next(out: &mut [u8], at: usize, v: u16) -> usize
+    requires { ⌜ at + length (44 ∷ decimal v) ≤ length (now out) ⌝ }
+    ensures { λ r. ⌜ (r ≡ at + length (44 ∷ decimal v)) × (now (out .exit) ≡ sets (now (out .entry)) at (44 ∷ decimal v)) ⌝ }
+{
+    out[at] = 44;
+    put_number(out, at + 1, v)
+}
+
+// Puts a line's end.
+pub fn put_line_end(out: &mut [u8], at: usize) -> usize
+    requires { ⌜ at + length lineEnd ≤ length (now out) ⌝ }
+    ensures { λ r. ⌜ (r ≡ at + length lineEnd) × (now (out .exit) ≡ sets (now (out .entry)) at lineEnd) ⌝ }
+{
+    out[at] = 10;
+    at + 1
+}
+
+// Puts a whole line: a key, the first `count` values with a comma between, the line's end.
+pub fn put_line(out: &mut [u8], at: usize, key: &[u8], values: [u16; 4], count: usize) -> usize
+    requires { ⌜ (0 < count) × (count ≤ 4) ⌝ }
+    requires { ⌜ at + length (line (now key) (take count values)) ≤ length (now out) ⌝ }
+    ensures { λ r. ⌜ (r ≡ at + length (line (now (key .entry)) (take count values))) × (now (out .exit) ≡ sets (now (out .entry)) at (line (now (key .entry)) (take count values))) ⌝ }
+{
+    let first = put_bytes(out, at, key);
+    let mut i = put_number(out, first, values[0]);
+    let mut k = 1;
+    while k < count {
+        let e = put_next(out, i, values[k]);
+        i = e;
+        k += 1;
+    }
+    put_line_end(out, i)
+}

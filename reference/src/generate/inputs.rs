@@ -1,0 +1,128 @@
+//! Whole inputs of the program `plate`.
+
+use super::edits::edit_text;
+use super::random::Random;
+use super::records::{directed_torus, from_rings, refused_sheet, torus};
+use super::sheets::{extreme_sheets, parallel, random_sheet};
+use super::texts::{damaged, sheet_text};
+use crate::plate::MAX_INPUT;
+use crate::sheet::Sheet;
+
+/// An endless sequence of inputs: good ones, damaged ones, and ones at the limits.
+pub struct Inputs {
+    random: Random,
+    extremes: Vec<Sheet>,
+}
+
+impl Inputs {
+    pub fn new(seed: u64) -> Inputs {
+        let mut random = Random::new(seed);
+        let extremes = extreme_sheets(&mut random);
+        Inputs { random, extremes }
+    }
+
+    fn sheet(&mut self) -> Sheet {
+        if self.random.one_in(12) {
+            self.random.pick(&self.extremes)
+        } else {
+            random_sheet(&mut self.random)
+        }
+    }
+
+    /// The text of a sheet, and edit lines for it.
+    fn good(&mut self) -> Vec<u8> {
+        let sheet = self.sheet();
+        let count = self.random.pick(&[0, 1, 2, 5, 10, 20, 60]);
+        let count = self.random.below(count + 1);
+        let mut text = sheet_text(&mut self.random, &sheet);
+        text.extend(edit_text(&mut self.random, &sheet, count).0);
+        text
+    }
+
+    /// The text of a sheet that load refuses after the last line.
+    fn refused_after_last_line(&mut self) -> Vec<u8> {
+        let sheet = self.sheet();
+        let refusal = self.random.between(5, 8) as u8;
+        let refused = refused_sheet(&mut self.random, &sheet, refusal).unwrap_or(sheet);
+        sheet_text(&mut self.random, &refused)
+    }
+
+    /// A good input made longer, up to the limit or one byte more.
+    fn long(&mut self) -> Vec<u8> {
+        let sheet = self.sheet();
+        let mut text = sheet_text(&mut self.random, &sheet);
+        let size = MAX_INPUT + self.random.below(2);
+        let mut last = sheet;
+        while text.len() < size {
+            let (lines, next) = edit_text(&mut self.random, &last, 200);
+            text.extend(lines);
+            text.push(b'\n');
+            last = next;
+        }
+        text.truncate(size);
+        text
+    }
+}
+
+impl Iterator for Inputs {
+    type Item = Vec<u8>;
+
+    fn next(&mut self) -> Option<Vec<u8>> {
+        Some(match self.random.below(64) {
+            0 => self.long(),
+            1 => {
+                let length = self.random.below(80);
+                (0..length).map(|_| self.random.word() as u8).collect()
+            }
+            2..=7 => self.refused_after_last_line(),
+            8..=39 => self.good(),
+            kind => {
+                let mut text = self.good();
+                for _ in 0..if kind < 60 { 1 } else { 3 } {
+                    text = damaged(&mut self.random, &text);
+                }
+                text
+            }
+        })
+    }
+}
+
+/// Every front part of the text, from none of it to all.
+pub fn truncations(text: &[u8]) -> impl Iterator<Item = &[u8]> {
+    (0..=text.len()).map(|length| &text[..length])
+}
+
+/// The text, then copies of `filler` up to `size` bytes.
+pub fn padded(text: &[u8], filler: &[u8], size: usize) -> Vec<u8> {
+    let filling = filler.iter().cycle().copied();
+    text.iter().copied().chain(filling).take(size).collect()
+}
+
+/// Inputs that should always be among those compared.
+pub fn special_inputs() -> Vec<Vec<u8>> {
+    let random = &mut Random::new(0);
+    let fresh = sheet_text(random, &Sheet::fresh());
+    let wide = sheet_text(random, &parallel(256));
+    let mut inputs: Vec<Vec<u8>> = vec![Vec::new(), b"\n".to_vec(), b"\r\n".to_vec()];
+    for size in [MAX_INPUT - 1, MAX_INPUT, MAX_INPUT + 1, 4 * MAX_INPUT] {
+        for filler in [b"\n".as_slice(), b"in=1\n", b"out=1\n", b"x", b"off=2\nin=1\n"] {
+            inputs.push(padded(&fresh, filler, size));
+            inputs.push(padded(&wide, filler, size));
+            inputs.push(padded(b"", filler, size));
+        }
+    }
+    for record in [torus(), directed_torus()] {
+        inputs.push(sheet_text(random, &record));
+    }
+    let twisted = from_rings(&[(0, 1); 3], &[vec![0, 1, 2], vec![0, 1, 2]]);
+    inputs.push(sheet_text(random, &twisted));
+    for head in ["bars=128", "bars=129", "bars=1", "bars=02", "bars=0", "bars=999", "bars=1000"] {
+        inputs.push(format!("{head}\n").into_bytes());
+        inputs.push(format!("{head}\nwires=2\nwire=0,1\n").into_bytes());
+        inputs.push(head.as_bytes().to_vec());
+    }
+    let crowded = ["0,1"; 4000].join(",");
+    inputs.push(format!("bars=2\nwires=2\nwire=0,1\nwire=0,1\naround={crowded}\n").into_bytes());
+    inputs.extend(truncations(&fresh).map(Vec::from));
+    inputs
+}
