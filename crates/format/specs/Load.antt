@@ -4,7 +4,7 @@ use mathlib.Core.Bool.{Bool, true, false, not, _&&_}
 use mathlib.Core.List.{List, [], _∷_}
 use lib.Dec.{eqb, ltb, leb}
 use lib.ListN.{set, replicate}
-use Rattle.text.specs.Reading.{pick, lineAt}
+use Rattle.text.specs.Reading.{pick, Listed, lineAt}
 use Rattle.text.specs.Shapes.{withOne, withTwo, withSome}
 use Rattle.sheet.specs.declared.Sheet.{Sheet}
 use Rattle.sheet.specs.declared.Answer.{Answer}
@@ -50,15 +50,17 @@ edgeLines (suc r) text s k at = withTwo (lineAt wireKey text at) (refused BadLay
     (λ _. edgeLines r text (withEdge s k a b) (k + 1) next)
     (λ _. refused BadEdge))
 
--- the lines `bars=n` and `wires=m`; 2 n or m outside its limits
+-- a line of one count; 2 outside its limits, which are 2 and `most`
+unfoldable pub withCount : Listed → ℕ → (ℕ → ℕ → Parsed) → Parsed
+withCount line most good =
+    withOne line (refused BadLayout) (λ n next. pick (leb 2 n && leb n most) (λ _. good n next) (λ _. refused CountOutOfLimits))
+
+-- the lines `bars=n` and `wires=m`, and what follows them
 unfoldable pub parse : List ℕ → Parsed
-parse text = withOne (lineAt barsKey text 0) (refused BadLayout) (λ n next.
-    pick (leb 2 n && leb n 128)
-    (λ _. withOne (lineAt wiresKey text next) (refused BadLayout) (λ m after.
-    pick (leb 2 m && leb m 256)
-    (λ _. edgeLines m text (emptySheet n m) 0 after)
-    (λ _. refused CountOutOfLimits)))
-    (λ _. refused CountOutOfLimits))
+parse text =
+    withCount (lineAt barsKey text 0) 128 (λ n next.
+    withCount (lineAt wiresKey text next) 256 (λ m after.
+    edgeLines m text (emptySheet n m) 0 after))
 
 -- Refused, the present sheet comes back, and 0 bytes are taken.
 unfoldable pub loaded : Sheet → Parsed → Loaded

@@ -17,7 +17,7 @@ use Rattle.sheet.specs.Darts.{opposite, vertex, touches, dartAt}
 use Rattle.sheet.specs.Fresh.{freshSheet}
 use Rattle.sheet.specs.Check.{sound, withinLimits, joined, inRings, unusedZero, rooted, acyclic, rowLevels, poles, incoming, outgoing, planar, faceTable, columnLevels, faceFrom, faceTo, edgeTable, judge}
 use Rattle.format.specs.Rings.{occurrences, allIn, isRotation, linkFrom}
-use Rattle.format.specs.Load.{emptySheet, withEdge, withNexts, judged, ringLines, edgeLines, parse, loaded}
+use Rattle.format.specs.Load.{emptySheet, withEdge, withNexts, judged, ringLines, edgeLines, withCount, parse, loaded}
 use Rattle.edit.specs.Lines.{editOf, lineLength}
 use Rattle.edit.specs.Reaching.{marked, markedTimes, leadsTo}
 use Rattle.edit.specs.Changes.{renamed, replaceDart, insertDart, removeDart, putIn, runEdge, lastEdgeTo, lastVertexTo, takeOutEdge, takeOutVertex, incomingEdge, outgoingEdge}
@@ -30,7 +30,7 @@ use Rattle.plates.specs.Printed.{Printed}
 use Rattle.plates.proofs.Lists.{each-printed}
 
 printed : allPrinted plates ≡ true
-unfolding count allBelow someBelow lowestBelow listBelow tabulate joinBelow traced isPermutation permutesFrom traceFrom walkFrom unnumberedBelow flat joins withinOf raised relaxed rounds climbs digraph.answer levelsOf digitOf numberOf startsWith before lineEndAt afterNumber numbersFrom closed lineAt lastClosed lastLineAt withOne withTwo withFour withSome decimal separated line refusalNumber first isAccepted opposite vertex touches dartAt freshSheet sound withinLimits joined inRings unusedZero rooted acyclic rowLevels poles incoming outgoing planar faceTable columnLevels faceFrom faceTo edgeTable occurrences allIn isRotation linkFrom emptySheet withEdge withNexts judge judged ringLines edgeLines parse loaded editOf lineLength marked markedTimes leadsTo renamed replaceDart insertDart removeDart putIn runEdge lastEdgeTo lastVertexTo takeOutEdge takeOutVertex incomingEdge outgoingEdge putInAnswer cornerFace runAnswer outDegree inDegree takeOutEdgeAnswer takeOutVertexAnswer edited apply edgeColumn columnsAt least greatest vertexSegment edgeSegment drawingOf vertexLine edgeLine drawingText refusedLine editOutput editsOutput loadedOutput plateOutput lines plates same allPrinted
+unfolding count allBelow someBelow lowestBelow listBelow tabulate joinBelow traced isPermutation permutesFrom traceFrom walkFrom unnumberedBelow flat joins withinOf raised relaxed rounds climbs digraph.answer levelsOf digitOf numberOf startsWith before lineEndAt afterNumber numbersFrom closed lineAt lastClosed lastLineAt withOne withTwo withFour withSome decimal separated line refusalNumber first isAccepted opposite vertex touches dartAt freshSheet sound withinLimits joined inRings unusedZero rooted acyclic rowLevels poles incoming outgoing planar faceTable columnLevels faceFrom faceTo edgeTable occurrences allIn isRotation linkFrom emptySheet withEdge withNexts judge judged ringLines edgeLines withCount parse loaded editOf lineLength marked markedTimes leadsTo renamed replaceDart insertDart removeDart putIn runEdge lastEdgeTo lastVertexTo takeOutEdge takeOutVertex incomingEdge outgoingEdge putInAnswer cornerFace runAnswer outDegree inDegree takeOutEdgeAnswer takeOutVertexAnswer edited apply edgeColumn columnsAt least greatest vertexSegment edgeSegment drawingOf vertexLine edgeLine drawingText refusedLine editOutput editsOutput loadedOutput plateOutput lines plates same allPrinted
 printed = refl
 
 pub plates-printed : Printed

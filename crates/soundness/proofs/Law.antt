@@ -15,6 +15,13 @@ use Rattle.soundness.proofs.Rings.{Rotation, rings-rotation, rings-law}
 use Rattle.soundness.proofs.Faces.{planar-law}
 use Rattle.soundness.proofs.Levels.{acyclic-says}
 
+-- an edge of the record is an edge of its lists
+pub listed : (s : Sheet) (u v : ℕ) → Leads s u v → digraph.Leads (s .edges) (s .tails) (s .heads) u v
+listed s u v t = record { edge = t .edge; inside = t .edge-in; source = t .from; target = t .to }
+
+pub unlisted : (s : Sheet) (u v : ℕ) → digraph.Leads (s .edges) (s .tails) (s .heads) u v → Leads s u v
+unlisted s u v t = record { edge = t .edge; edge-in = t .inside; from = t .source; to = t .target }
+
 module _ (s : Sheet) (l : Limits s) (joins : (k : ℕ) → k < s .edges → Joins s k) where
   pub rows-within : Within (s .vertices) (s .edges) (s .tails) (s .heads)
   rows-within = record {
@@ -24,16 +31,9 @@ module _ (s : Sheet) (l : Limits s) (joins : (k : ℕ) → k < s .edges → Join
     to-in = λ k h. joins k h .head-in;
   }
 
-  -- an edge of the record is an edge of its lists
-  pub listed : (u v : ℕ) → Leads s u v → digraph.Leads (s .edges) (s .tails) (s .heads) u v
-  listed u v t = record { edge = t .edge; inside = t .edge-in; source = t .from; target = t .to }
-
-  pub unlisted : (u v : ℕ) → digraph.Leads (s .edges) (s .tails) (s .heads) u v → Leads s u v
-  unlisted u v t = record { edge = t .edge; edge-in = t .inside; from = t .source; to = t .target }
-
   pub acyclic-law : Says (acyclic s) (¬ Circle (Leads s))
   unfolding acyclic rowLevels
-  acyclic-law = acyclic-says (Leads s) (s .vertices) (s .edges) (s .tails) (s .heads) rows-within listed unlisted
+  acyclic-law = acyclic-says (Leads s) (s .vertices) (s .edges) (s .tails) (s .heads) rows-within (listed s) (unlisted s)
 
 pub limits-of : {s : Sheet} → Sound s → Limits s
 limits-of S = record { vertices-least = S .vertices-least; vertices-most = S .vertices-most; edges-least = S .edges-least; edges-most = S .edges-most }

@@ -26,7 +26,7 @@ module _ {s : Sheet} (S : Sound s) where
   row-longest : (v : ℕ) → v < s .vertices → Row s v (row s v)
   unfolding rowLevels
   row-longest = level-longest (Leads s) (s .vertices) (s .edges) (s .tails) (s .heads)
-      (rows-within s (limits-of S) (S .joins)) (listed s (limits-of S) (S .joins)) (unlisted s (limits-of S) (S .joins)) (S .acyclic) 0 all-reached
+      (rows-within s (limits-of S) (S .joins)) (listed s) (unlisted s) (S .acyclic) 0 all-reached
 
   row-rises : (u v : ℕ) → Leads s u v → row s u < row s v
   row-rises u v t =

@@ -40,7 +40,7 @@ and-says {a} {b} x y = (
 )
 
 -- a test that fails
-pub fails : {b : Bool} {P : Type 0} → Says b P → ¬ P → b ≡ false
+fails : {b : Bool} {P : Type 0} → Says b P → ¬ P → b ≡ false
 fails {b = true} x n = absurd (n (x .0 refl))
 fails {b = false} x n = refl
 

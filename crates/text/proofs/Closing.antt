@@ -40,27 +40,27 @@ closing last s l = cond last (lastClosed s l) (closed s l)
 
 module _ (s : List ℕ) where
   pub closing-none : (last : Bool) → closing last s unlisted ≡ unlisted
-  unfolding closing closed lastClosed
+  unfolding closed lastClosed
   closing-none true = refl
   closing-none false = refl
 
   module _ (vs : List ℕ) (next : ℕ) where
     pub closing-over : length s ≤ next → closing true s (listed vs next) ≡ listed vs next
-    unfolding closing lastClosed
+    unfolding lastClosed
     closing-over h = rw (le-leb (length s) next h)
 
     pub closing-ended : (last : Bool) → (lineEndAt s next ≡ 0 → ⊥) → closing last s (listed vs next) ≡ listed vs (next + lineEndAt s next)
-    unfolding closing closed lastClosed
+    unfolding closed lastClosed
     closing-ended false n = rw (ne-eqb (lineEndAt s next) 0 n)
     closing-ended true n = rw (lt-leb (length s) next (omega (arith, line-end-inside s next n)), ne-eqb (lineEndAt s next) 0 n)
 
     pub closing-open : (last : Bool) → (last ≡ true → next < length s) → lineEndAt s next ≡ 0 → closing last s (listed vs next) ≡ unlisted
-    unfolding closing closed lastClosed
+    unfolding closed lastClosed
     closing-open false h z = rw (eq-eqb (lineEndAt s next) 0 z)
     closing-open true h z = rw (lt-leb (length s) next (h refl), eq-eqb (lineEndAt s next) 0 z)
 
   pub keyed : (last : Bool) (key : List ℕ) (at : ℕ) → startsWith key (drop at s) ≡ true → lineOf last key s at ≡ closing last s (numbersAt s (at + length key))
-  unfolding closing lineAt lastLineAt
+  unfolding lineAt lastLineAt
   keyed true key at k = rw k
   keyed false key at k = rw k
 

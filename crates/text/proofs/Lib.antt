@@ -8,3 +8,4 @@ pub mod Writing
 pub mod Back
 pub mod Only
 pub mod Laws
+pub mod Counted

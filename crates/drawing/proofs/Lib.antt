@@ -1,0 +1,6 @@
+pub mod Extremes
+pub mod Segments
+pub mod Contact
+pub mod Rings
+pub mod Order
+pub mod Right

@@ -1,0 +1,47 @@
+-- A line by how many numbers the reading call counted. Assumes nothing.
+use Prim.Native.Nat.{ℕ, suc, _+_}
+use mathlib.Core.Path.{_≡_, refl, sym, ap, _∙_}
+use mathlib.Core.Logic.{_≢_}
+use mathlib.Core.List.{List, [], _∷_}
+use native.Mathlib.Omega.{arith}
+use lib.ListN.{getD, length}
+use Rattle.text.specs.declared.Numbers.{Numbers}
+use Rattle.text.specs.Reading.{Listed, numbersOf}
+use Rattle.text.specs.Reading.Listed.{listed, unlisted}
+use Rattle.text.specs.Shapes.{withOne, withTwo, withFour}
+
+module _ {A : Type 0} (bad : A) where
+  pub one-is : (good : ℕ → ℕ → A) (l : Listed) → numbersOf l .count ≡ 1 → withOne l bad good ≡ good (getD (numbersOf l .values) 0 0) (numbersOf l .next)
+  unfolding numbersOf withOne
+  one-is good unlisted e = absurd (omega arith)
+  one-is good (listed [] next) e = absurd (omega arith)
+  one-is good (listed (a ∷ []) next) e = refl
+  one-is good (listed (a ∷ b ∷ vs) next) e = absurd (omega arith)
+
+  pub one-not : (good : ℕ → ℕ → A) (l : Listed) → numbersOf l .count ≢ 1 → withOne l bad good ≡ bad
+  unfolding numbersOf withOne
+  one-not good unlisted e = refl
+  one-not good (listed [] next) e = refl
+  one-not good (listed (a ∷ []) next) e = absurd (e refl)
+  one-not good (listed (a ∷ b ∷ vs) next) e = refl
+
+  pub four-is : (good : ℕ → ℕ → ℕ → ℕ → ℕ → A) (l : Listed) → numbersOf l .count ≡ 4
+      → withFour l bad good ≡ good (getD (numbersOf l .values) 0 0) (getD (numbersOf l .values) 1 0) (getD (numbersOf l .values) 2 0) (getD (numbersOf l .values) 3 0) (numbersOf l .next)
+  unfolding numbersOf withFour
+  four-is good unlisted e = absurd (omega arith)
+  four-is good (listed [] next) e = absurd (omega arith)
+  four-is good (listed (a ∷ []) next) e = absurd (omega arith)
+  four-is good (listed (a ∷ b ∷ []) next) e = absurd (omega arith)
+  four-is good (listed (a ∷ b ∷ c ∷ []) next) e = absurd (omega arith)
+  four-is good (listed (a ∷ b ∷ c ∷ d ∷ []) next) e = refl
+  four-is good (listed (a ∷ b ∷ c ∷ d ∷ x ∷ vs) next) e = absurd (omega arith)
+
+  pub four-not : (good : ℕ → ℕ → ℕ → ℕ → ℕ → A) (l : Listed) → numbersOf l .count ≢ 4 → withFour l bad good ≡ bad
+  unfolding numbersOf withFour
+  four-not good unlisted e = refl
+  four-not good (listed [] next) e = refl
+  four-not good (listed (a ∷ []) next) e = refl
+  four-not good (listed (a ∷ b ∷ []) next) e = refl
+  four-not good (listed (a ∷ b ∷ c ∷ []) next) e = refl
+  four-not good (listed (a ∷ b ∷ c ∷ d ∷ []) next) e = absurd (e refl)
+  four-not good (listed (a ∷ b ∷ c ∷ d ∷ x ∷ vs) next) e = refl

@@ -1,0 +1,60 @@
+//! The calls of the proved library, as safe functions over the reference's types.
+//!
+//! The declarations below are the C names that the crate `exports` gives the calls. Nothing checks them against the
+//! source, so this file is the only place that has them.
+
+use reference::Sheet;
+
+mod calls {
+    extern "C" {
+        pub fn walnut_levels(
+            nodes: usize,
+            edges: usize,
+            from: &[u16; 256],
+            to: &[u16; 256],
+            level: &mut [u16; 256],
+        ) -> bool;
+        pub fn walnut_trace(size: usize, step: &[u16; 512], orbit: &mut [u16; 512]) -> usize;
+        pub fn walnut_is_sound(
+            vertices: usize,
+            edges: usize,
+            tails: &[u16; 256],
+            heads: &[u16; 256],
+            nexts: &[u16; 512],
+        ) -> bool;
+        pub fn walnut_read_edit(
+            text: *const u8,
+            length: usize,
+            numbers: &mut [u16; 4],
+            taken: &mut usize,
+        ) -> u16;
+    }
+}
+
+/// The longest-path level of every node, or `None` where there is a circle.
+pub fn levels(nodes: usize, edges: usize, from: &[u16; 256], to: &[u16; 256]) -> Option<[u16; 256]> {
+    let mut level = [0; 256];
+    let acyclic = unsafe { calls::walnut_levels(nodes, edges, from, to, &mut level) };
+    acyclic.then_some(level)
+}
+
+/// The number of orbits of a permutation, and the number of each element's orbit.
+pub fn trace(size: usize, step: &[u16; 512]) -> (usize, [u16; 512]) {
+    let mut orbit = [0; 512];
+    let count = unsafe { calls::walnut_trace(size, step, &mut orbit) };
+    (count, orbit)
+}
+
+/// Whether a record is a sound sheet.
+pub fn is_sound(sheet: &Sheet) -> bool {
+    unsafe {
+        calls::walnut_is_sound(sheet.vertices, sheet.edges, &sheet.tails, &sheet.heads, &sheet.nexts)
+    }
+}
+
+/// The edit at the front of a text as its kind (0 in, 1 run, 2 out, 3 off, 4 refused) with its numbers, and the bytes taken.
+pub fn read_edit(text: &[u8]) -> (u16, [u16; 4], usize) {
+    let (mut numbers, mut taken) = ([0; 4], 0);
+    let kind = unsafe { calls::walnut_read_edit(text.as_ptr(), text.len(), &mut numbers, &mut taken) };
+    (kind, numbers, taken)
+}

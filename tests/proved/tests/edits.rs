@@ -1,0 +1,64 @@
+//! Read edit against the reference, on edit lines, damaged lines and any bytes.
+
+use reference::generate::{any_edit, damaged, edit_line, random_sheet, truncations, Random};
+use reference::Edit;
+
+/// The reference's answer in the form of the proved call.
+fn expected(text: &[u8]) -> (u16, [u16; 4], usize) {
+    let (edit, taken) = reference::read_edit(text);
+    let small = |x: usize| u16::try_from(x).expect("an edit line's numbers are below 1000");
+    match edit {
+        Ok(Edit::In(k)) => (0, [small(k), 0, 0, 0], taken),
+        Ok(Edit::Run(a, p, b, q)) => (1, [small(a), small(p), small(b), small(q)], taken),
+        Ok(Edit::Out(k)) => (2, [small(k), 0, 0, 0], taken),
+        Ok(Edit::Off(v)) => (3, [small(v), 0, 0, 0], taken),
+        Err(_) => (4, [0; 4], taken),
+    }
+}
+
+#[test]
+fn read_edit_agrees_on_lines_and_damaged_lines() {
+    let random = &mut Random::new(21);
+    let mut kinds = [0; 5];
+    for _ in 0..60_000 {
+        let sheet = if random.one_in(50) { random_sheet(random) } else { reference::Sheet::fresh() };
+        let mut text = edit_line(any_edit(random, &sheet));
+        if random.one_in(3) {
+            text = damaged(random, &text);
+        }
+        if random.one_in(3) {
+            text.extend(edit_line(any_edit(random, &sheet)));
+        }
+        if random.one_in(4) {
+            text.pop();
+        }
+        let answer = proved::read_edit(&text);
+        kinds[answer.0 as usize] += 1;
+        assert_eq!(answer, expected(&text), "{text:?}");
+    }
+    assert!(kinds.iter().all(|&n| n > 500), "every kind occurs: {kinds:?}");
+}
+
+#[test]
+fn read_edit_agrees_on_front_parts_and_special_lines() {
+    let lines: [&[u8]; 14] = [
+        b"", b"\n", b"in=1", b"in=1\n", b"in=01\n", b"in=1,\n", b"in=1000", b"run=1,2,3,4", b"run=1,2,3,4,5\n", b"out=999\nin=1\n",
+        b"off=0\r\n", b"bars=2\n", b"\xff\x80\n", b"In=1\n",
+    ];
+    for line in lines {
+        for text in truncations(line) {
+            assert_eq!(proved::read_edit(text), expected(text), "{text:?}");
+        }
+    }
+    assert_eq!(proved::read_edit(b""), (4, [0; 4], 0), "of no bytes it takes none and refuses");
+}
+
+#[test]
+fn read_edit_agrees_on_any_bytes() {
+    let random = &mut Random::new(22);
+    for _ in 0..20_000 {
+        let length = random.below(24);
+        let text: Vec<u8> = (0..length).map(|_| random.word() as u8).collect();
+        assert_eq!(proved::read_edit(&text), expected(&text), "{text:?}");
+    }
+}
