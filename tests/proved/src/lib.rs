@@ -22,6 +22,26 @@ mod calls {
             heads: &[u16; 256],
             nexts: &[u16; 512],
         ) -> bool;
+        pub fn walnut_load(
+            text: *const u8,
+            length: usize,
+            vertices: &mut usize,
+            edges: &mut usize,
+            tails: &mut [u16; 256],
+            heads: &mut [u16; 256],
+            nexts: &mut [u16; 512],
+            taken: &mut usize,
+        ) -> u16;
+        pub fn walnut_write_sheet(
+            vertices: usize,
+            edges: usize,
+            tails: &[u16; 256],
+            heads: &[u16; 256],
+            nexts: &[u16; 512],
+            buffer: *mut u8,
+            length: usize,
+            count: &mut usize,
+        ) -> u16;
         pub fn walnut_read_edit(
             text: *const u8,
             length: usize,
@@ -50,6 +70,42 @@ pub fn is_sound(sheet: &Sheet) -> bool {
     unsafe {
         calls::walnut_is_sound(sheet.vertices, sheet.edges, &sheet.tails, &sheet.heads, &sheet.nexts)
     }
+}
+
+/// Load: the answer's number (0 for acceptance), the sheet returned, and the bytes taken.
+pub fn load(text: &[u8], present: &Sheet) -> (u16, Sheet, usize) {
+    let (mut sheet, mut taken) = (*present, 0);
+    let number = unsafe {
+        calls::walnut_load(
+            text.as_ptr(),
+            text.len(),
+            &mut sheet.vertices,
+            &mut sheet.edges,
+            &mut sheet.tails,
+            &mut sheet.heads,
+            &mut sheet.nexts,
+            &mut taken,
+        )
+    };
+    (number, sheet, taken)
+}
+
+/// Write sheet: the answer's number and the count of bytes written to the front of the buffer.
+pub fn write_sheet(sheet: &Sheet, buffer: &mut [u8]) -> (u16, usize) {
+    let mut count = 0;
+    let number = unsafe {
+        calls::walnut_write_sheet(
+            sheet.vertices,
+            sheet.edges,
+            &sheet.tails,
+            &sheet.heads,
+            &sheet.nexts,
+            buffer.as_mut_ptr(),
+            buffer.len(),
+            &mut count,
+        )
+    };
+    (number, count)
 }
 
 /// The edit at the front of a text as its kind (0 in, 1 run, 2 out, 3 off, 4 refused) with its numbers, and the bytes taken.

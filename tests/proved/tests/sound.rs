@@ -1,6 +1,6 @@
 //! Levels, orbits and soundness against the reference, on random and adversarial inputs.
 
-use reference::generate::{digraph, permutation, sheets, Random, Records};
+use reference::generate::{damaged_record, digraph, permutation, random_sheet, sheets, Random, Records};
 use reference::Sheet;
 
 #[test]
@@ -43,14 +43,29 @@ fn orbits_agree_on_random_permutations() {
     }
 }
 
+/// Compares one record; tells whether it is sound.
+fn same_soundness(sheet: &Sheet, what: &str) -> bool {
+    let expected = reference::is_sound(sheet);
+    assert_eq!(proved::is_sound(sheet), expected, "{what}: {} bars, {} wires", sheet.vertices, sheet.edges);
+    expected
+}
+
 #[test]
 fn soundness_agrees_on_a_hundred_thousand_records() {
+    let random = &mut Random::new(13);
     let (mut sound, mut unsound) = (0, 0);
-    for (number, sheet) in Records::new(13).take(100_000).enumerate() {
-        let expected = reference::is_sound(&sheet);
-        if expected { sound += 1 } else { unsound += 1 }
-        assert_eq!(proved::is_sound(&sheet), expected, "record {number}");
+    let mut count = |is_sound: bool| if is_sound { sound += 1 } else { unsound += 1 };
+    for sheet in Records::new(15).take(4_000) {
+        count(same_soundness(&sheet, "a record"));
     }
+    for _ in 0..12_000 {
+        let sheet = random_sheet(random);
+        count(same_soundness(&sheet, "a grown sheet"));
+        for _ in 0..7 {
+            count(same_soundness(&damaged_record(random, &sheet), "a damaged sheet"));
+        }
+    }
+    assert_eq!(sound + unsound, 100_000);
     assert!(sound > 10_000 && unsound > 10_000, "both answers occur: {sound}, {unsound}");
 }
 
