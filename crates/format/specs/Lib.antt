@@ -1,4 +1,5 @@
 pub mod Keys
 pub mod Rings
 pub mod Load
+pub mod Steps
 pub mod Write

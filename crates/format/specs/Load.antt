@@ -1,7 +1,7 @@
 -- Load: a sheet from the front of a text, line by line; on a line, shape first.
 use Prim.Native.Nat.{ℕ, zero, suc, _+_}
-use mathlib.Core.Bool.{Bool, true, false, not, _&&_}
-use mathlib.Core.List.{List, [], _∷_}
+use mathlib.Core.Bool.{not, _&&_}
+use mathlib.Core.List.{List}
 use lib.Dec.{eqb, ltb, leb}
 use lib.ListN.{set, replicate}
 use Rattle.text.specs.Reading.{pick, Listed, lineAt}

@@ -5,3 +5,5 @@ pub mod Fresh
 pub mod Sound
 pub mod Levels
 pub mod Check
+pub mod Findings
+pub mod Arrays

@@ -1,0 +1,168 @@
+// The calls of the library under plain C names, for programs and tests in other languages.
+ghost use mathlib.Core.Path.{_≡_};
+ghost use Rattle.digraph.specs.Relaxed.{levelsOf};
+ghost use Rattle.orbits.specs.Tables.{traced};
+ghost use Rattle.sheet.specs.Answers.{refusalNumber};
+ghost use Rattle.sheet.specs.Check.{sound};
+ghost use Rattle.format.specs.Load.{load};
+ghost use Rattle.edit.specs.Lines.{readEdit};
+ghost use Rattle.exports.specs.Edits.{kindOf, numbersIn};
+ghost use Rattle.exports.specs.Sheets.{sheetOf, Parts};
+use edit::Edit;
+use sheet::Answer;
+use sheet::Sheet;
+
+// The level of each node of a digraph; false where there is a circle.
+#[no_mangle]
+pub extern "C" fn walnut_levels(
+    nodes: usize,
+    edges: usize,
+    from: &[u16; 256],
+    to: &[u16; 256],
+    level: &mut [u16; 256],
+) -> bool
+    ensures { λ r. ⌜ (r ≡ levelsOf nodes edges (now (from .entry)) (now (to .entry)) .acyclic) × (now (level .exit) ≡ levelsOf nodes edges (now (from .entry)) (now (to .entry)) .level) ⌝ }
+{
+    let found = digraph::levels(nodes, edges, from, to);
+    let levels = found.level;
+    *level = levels;
+    found.acyclic
+}
+
+// The orbit of each element of a permutation, and how many orbits there are.
+#[no_mangle]
+pub extern "C" fn walnut_trace(size: usize, step: &[u16; 512], orbit: &mut [u16; 512]) -> usize
+    ensures { λ r. ⌜ (r ≡ traced size (now (step .entry)) .count) × (now (orbit .exit) ≡ traced size (now (step .entry)) .orbit) ⌝ }
+{
+    let found = orbits::trace(size, step);
+    let numbers = found.orbit;
+    *orbit = numbers;
+    found.count
+}
+
+// Whether a record is a sound sheet.
+#[no_mangle]
+pub extern "C" fn walnut_is_sound(
+    vertices: usize,
+    edges: usize,
+    tails: &[u16; 256],
+    heads: &[u16; 256],
+    nexts: &[u16; 512],
+) -> bool
+    ensures { λ r. ⌜ r ≡ sound (sheetOf vertices edges (now (tails .entry)) (now (heads .entry)) (now (nexts .entry))) ⌝ }
+{
+    let t = *tails;
+    let h = *heads;
+    let n = *nexts;
+    sheet::is_sound(Sheet {
+        vertices,
+        edges,
+        tails: t,
+        heads: h,
+        nexts: n,
+    })
+}
+
+// The number of an answer: 0, or the refusal number.
+fn number(a: Answer) -> u16
+    ensures { λ r. ⌜ r ≡ refusalNumber a ⌝ }
+{
+    match a {
+        Answer::Accepted => 0,
+        Answer::BadLayout => 1,
+        Answer::CountOutOfLimits => 2,
+        Answer::BadEdge => 3,
+        Answer::BadRotation => 4,
+        Answer::BadRoot => 5,
+        Answer::Cyclic => 6,
+        Answer::BadPoles => 7,
+        Answer::NotPlanar => 8,
+        Answer::NotSound => 9,
+        Answer::NotInSheet => 10,
+        Answer::Full => 11,
+        Answer::RootEdge => 12,
+        Answer::CornersApart => 13,
+        Answer::ClosesCircle => 14,
+        Answer::EdgeNeeded => 15,
+        Answer::VertexNeeded => 16,
+        Answer::BufferTooShort => 17,
+        Answer::InputTooLong => 18,
+    }
+}
+
+// Load. The present sheet is lent in parts, and the sheet that load returns takes its place.
+#[no_mangle]
+pub extern "C" fn walnut_load(
+    text: &[u8],
+    vertices: &mut usize,
+    edges: &mut usize,
+    tails: &mut [u16; 256],
+    heads: &mut [u16; 256],
+    nexts: &mut [u16; 512],
+    taken: &mut usize,
+) -> u16
+    ensures { λ r. ⌜ Parts (load (now (text .entry)) (sheetOf (now (vertices .entry)) (now (edges .entry)) (now (tails .entry)) (now (heads .entry)) (now (nexts .entry)))) r (now (vertices .exit)) (now (edges .exit)) (now (tails .exit)) (now (heads .exit)) (now (nexts .exit)) (now (taken .exit)) ⌝ }
+{
+    let old_tails = *tails;
+    let old_heads = *heads;
+    let old_nexts = *nexts;
+    let present = Sheet {
+        vertices: *vertices,
+        edges: *edges,
+        tails: old_tails,
+        heads: old_heads,
+        nexts: old_nexts,
+    };
+    let loaded = format::load(text, present);
+    let sheet = loaded.sheet;
+    let new_tails = sheet.tails;
+    let new_heads = sheet.heads;
+    let new_nexts = sheet.nexts;
+    *vertices = sheet.vertices;
+    *edges = sheet.edges;
+    *tails = new_tails;
+    *heads = new_heads;
+    *nexts = new_nexts;
+    *taken = loaded.taken;
+    let answer = loaded.answer;
+    number(answer)
+}
+
+// The kind of an edit: 0 in, 1 run, 2 out, 3 off, 4 refused.
+fn kind(e: Edit) -> u16
+    ensures { λ r. ⌜ r ≡ kindOf e ⌝ }
+{
+    match e {
+        Edit::In(_) => 0,
+        Edit::Run(_, _, _, _) => 1,
+        Edit::Out(_) => 2,
+        Edit::Off(_) => 3,
+        Edit::Refused => 4,
+    }
+}
+
+// The numbers of an edit, with 0 past them.
+fn numbers_in(e: Edit) -> [u16; 4]
+    ensures { λ r. ⌜ r ≡ numbersIn e ⌝ }
+{
+    match e {
+        Edit::In(k) => [k, 0, 0, 0],
+        Edit::Run(a, p, b, q) => [a, p, b, q],
+        Edit::Out(k) => [k, 0, 0, 0],
+        Edit::Off(v) => [v, 0, 0, 0],
+        Edit::Refused => [0, 0, 0, 0],
+    }
+}
+
+// Read edit.
+#[no_mangle]
+pub extern "C" fn walnut_read_edit(text: &[u8], numbers: &mut [u16; 4], taken: &mut usize) -> u16
+    ensures { λ r. ⌜ (r ≡ kindOf (readEdit (now (text .entry)) .edit)) × (now (numbers .exit) ≡ numbersIn (readEdit (now (text .entry)) .edit)) × (now (taken .exit) ≡ readEdit (now (text .entry)) .taken) ⌝ }
+{
+    let read = edit::read_edit(text);
+    let e = read.edit;
+    let found = numbers_in(e);
+    *numbers = found;
+    *taken = read.taken;
+    kind(e)
+}

@@ -1,0 +1,5 @@
+pub mod Occurrences
+pub mod Walking
+pub mod Shapes
+pub mod Ends
+pub mod Turns

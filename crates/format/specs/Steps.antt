@@ -1,0 +1,108 @@
+-- Load in the steps of its functions, over the record's arrays.
+use Prim.Native.Nat.{ℕ, _+_, _*_, _≤_, _<_}
+use mathlib.Core.Path.{_≡_}
+use mathlib.Core.Logic.{_≢_}
+use mathlib.Core.Bool.{Bool, true, cond, not, _&&_, _||_}
+use mathlib.Core.List.{List, [], _∷_}
+use lib.Dec.{eqb, ltb, leb}
+use lib.ListN.{getD, set, length, replicate}
+use Rattle.text.specs.declared.Number.{Number}
+use Rattle.text.specs.declared.Number.the-variants.{Value, Missing}
+use Rattle.text.specs.Reading.{pick, Listed, numbersAt}
+use Rattle.text.specs.Reading.Listed.{listed, unlisted}
+use Rattle.text.specs.Shapes.{withOne}
+use Rattle.sheet.specs.declared.Sheet.{Sheet}
+use Rattle.sheet.specs.declared.Answer.the-variants.{BadLayout, CountOutOfLimits}
+use Rattle.format.specs.declared.lines.Count.{Count}
+use Rattle.format.specs.declared.lines.Count.the-variants as counts
+use Rattle.format.specs.declared.lines.Step.{Step}
+use Rattle.format.specs.declared.lines.Step.the-variants.{Next, Refused}
+use Rattle.format.specs.declared.rings.Entry.{Entry}
+use Rattle.format.specs.declared.rings.Entry.the-variants.{Edge, Bad}
+use Rattle.format.specs.Load.{Parsed, judged, ringLines, edgeLines}
+use Rattle.format.specs.Load.Parsed.{refused}
+
+abbrev pub sheetOf : ℕ → ℕ → List ℕ → List ℕ → List ℕ → Sheet
+sheetOf n m tails heads nexts = record { vertices = n; edges = m; tails = tails; heads = heads; nexts = nexts }
+
+unfoldable pub noNexts : List ℕ
+noNexts = replicate 512 0
+
+-- ---- the count lines: one number, from 2 to `most`
+
+unfoldable pub countOf : ℕ → Listed → Count
+countOf most line =
+    withOne line (counts.Refused BadLayout) (λ n next. pick (leb 2 n && leb n most) (λ _. counts.Value n next) (λ _. counts.Refused CountOutOfLimits))
+
+-- ---- the edge lines
+
+-- edge k joins two different vertices of n
+pub record Joint (n : ℕ) (tails heads : List ℕ) (k : ℕ) : Type 0 where
+  pub tail-in : getD tails k 0 < n
+  pub head-in : getD heads k 0 < n
+  pub apart : getD tails k 0 ≢ getD heads k 0
+
+-- what load goes on to
+unfoldable pub afterEdges : List ℕ → ℕ → ℕ → List ℕ → List ℕ → Step → Parsed
+afterEdges text n m tails heads (Next at) = ringLines n text (sheetOf n m tails heads noNexts) 0 at
+afterEdges text n m tails heads (Refused a) = refused a
+
+pub record EdgesRead (text : List ℕ) (n m start : ℕ) (tails₀ heads₀ tails heads : List ℕ) (r : Step) : Type 0 where
+  pub rest : afterEdges text n m tails heads r ≡ edgeLines m text (sheetOf n m tails₀ heads₀ noNexts) 0 start
+  pub joined : (at : ℕ) → r ≡ Next at → (k : ℕ) → k < m → Joint n tails heads k
+
+-- ---- the ring lines
+
+-- edge w has an end at vertex v; that dart
+unfoldable pub touchesAt : List ℕ → List ℕ → ℕ → ℕ → Bool
+touchesAt tails heads v w = eqb (getD tails w 0) v || eqb (getD heads w 0) v
+
+unfoldable pub dartOf : List ℕ → ℕ → ℕ → ℕ
+dartOf tails v w = cond (eqb (getD tails w 0) v) (2 * w) (2 * w + 1)
+
+-- edge w may stand on v's line: it is one of m, has an end at v, and does not bear the mark v + 1 of this line
+unfoldable pub fitsOf : ℕ → List ℕ → List ℕ → ℕ → List ℕ → ℕ → Bool
+fitsOf m tails heads v seen w = ltb w m && (touchesAt tails heads v w && not (eqb (getD seen w 0) (v + 1)))
+
+unfoldable pub edgeOf : ℕ → List ℕ → List ℕ → ℕ → List ℕ → Number → Entry
+edgeOf m tails heads v seen Missing = Bad
+edgeOf m tails heads v seen (Value w next) = cond (fitsOf m tails heads v seen w) (Edge (dartOf tails v w) next) Bad
+
+unfoldable pub marksOf : ℕ → List ℕ → List ℕ → ℕ → List ℕ → Number → List ℕ
+marksOf m tails heads v seen Missing = seen
+marksOf m tails heads v seen (Value w next) = cond (fitsOf m tails heads v seen w) (set seen w (v + 1)) seen
+
+-- the numbers at a place, a comma between
+unfoldable pub valuesOf : Listed → List ℕ
+valuesOf (listed vs next) = vs
+valuesOf unlisted = []
+
+abbrev pub numbersOn : List ℕ → ℕ → List ℕ
+numbersOn text at = valuesOf (numbersAt text at)
+
+-- each of the edges ws, marked in their order, may stand on v's line
+unfoldable pub fitFrom : ℕ → List ℕ → List ℕ → ℕ → List ℕ → List ℕ → Bool
+fitFrom m tails heads v seen [] = true
+fitFrom m tails heads v seen (w ∷ ws) = fitsOf m tails heads v seen w && fitFrom m tails heads v (set seen w (v + 1)) ws
+
+-- v's darts in the order of the list: after `last` the next one's, after the last the first
+unfoldable pub linkedFrom : List ℕ → ℕ → ℕ → ℕ → List ℕ → List ℕ → List ℕ
+linkedFrom tails v first last [] nexts = set nexts last first
+linkedFrom tails v first last (w ∷ ws) nexts = linkedFrom tails v first (dartOf tails v w) ws (set nexts last (dartOf tails v w))
+
+unfoldable pub linked : List ℕ → ℕ → List ℕ → List ℕ → List ℕ
+linked tails v [] nexts = nexts
+linked tails v (w ∷ ws) nexts = linkedFrom tails v (dartOf tails v w) (dartOf tails v w) ws nexts
+
+pub record RingRead (m : ℕ) (tails heads : List ℕ) (v : ℕ) (ws seen₀ nexts₀ seen nexts : List ℕ) (r : Bool) : Type 0 where
+  pub fit : r ≡ fitFrom m tails heads v seen₀ ws
+  pub links : r ≡ true → nexts ≡ linked tails v ws nexts₀
+  pub marks : (k : ℕ) → getD seen₀ k 0 ≤ v + 1 → getD seen k 0 ≤ v + 1
+  pub size : length seen ≡ length seen₀
+
+unfoldable pub afterRings : ℕ → ℕ → List ℕ → List ℕ → List ℕ → Step → Parsed
+afterRings n m tails heads nexts (Next at) = judged (sheetOf n m tails heads nexts) at
+afterRings n m tails heads nexts (Refused a) = refused a
+
+abbrev pub RingsRead : List ℕ → ℕ → ℕ → ℕ → List ℕ → List ℕ → List ℕ → List ℕ → Step → Type 0
+RingsRead text n m start tails heads nexts₀ nexts r = afterRings n m tails heads nexts r ≡ ringLines n text (sheetOf n m tails heads nexts₀) 0 start

@@ -1,0 +1,10 @@
+pub mod Entries
+pub mod Around
+pub mod Ends
+pub mod Linking
+pub mod Laid
+pub mod Loaded
+pub mod Rotations
+pub mod Standing
+pub mod RoundTrip
+pub mod Written

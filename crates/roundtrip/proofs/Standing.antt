@@ -1,0 +1,45 @@
+-- Lines that stand in a text. Assumes nothing.
+use mathlib.Core.Path.{_≡_}
+use mathlib.Core.Logic.{by-cases}
+use mathlib.Core.List.{List, [], _∷_, _++_}
+use Prim.Native.Nat.{ℕ, zero, suc, _+_, _<_}
+use native.Mathlib.Decide.{ℕ-discrete}
+use native.Mathlib.Nat.{zero-add}
+use native.Mathlib.Numerals.{add-one}
+use native.Mathlib.Omega.{arith}
+use lib.ListN.{getD, length, length-append, List·getD-append}
+use Rattle.counting.specs.Below.{joinBelow}
+use Rattle.text.specs.Layout.{Holds, Numerals}
+use Rattle.text.proofs.Holding.{holds-left, holds-right}
+
+-- at the front, whatever follows
+pub holds-front : (ds rest : List ℕ) → Holds (ds ++ rest) 0 ds
+holds-front ds rest = record { room = omega (arith, length-append ds rest); each = λ i h. rw zero-add (List·getD-append ds rest 0 i h) }
+
+module _ (f : ℕ → List ℕ) where
+  -- the texts f 0, f 1, … one after the other
+  pub joined-length : (k : ℕ) → length (joinBelow f (k + 1)) ≡ length (joinBelow f k) + length (f k)
+  unfolding joinBelow
+  joined-length k = rw (add-one k) (length-append (joinBelow f k) (f k))
+
+  pub holds-joined : {text : List ℕ} {at : ℕ} (n k : ℕ) → k < n → Holds text at (joinBelow f n) → Holds text (at + length (joinBelow f k)) (f k)
+  unfolding joinBelow
+  holds-joined zero k h H = absurd (omega arith)
+  holds-joined (suc n) k h H = by-cases (ℕ-discrete k n)
+      (λ e. rw e (holds-right (joinBelow f n) (f n) H))
+      (λ e. holds-joined n k (omega arith) (holds-left (joinBelow f n) (f n) H))
+
+-- the numbers of a line
+pub one-number : (a : ℕ) → a < 1000 → Numerals (a ∷ [])
+one-number a h = record { some = omega arith; small = each }
+  where
+    each : (i : ℕ) → i < 1 → getD (a ∷ []) i 0 < 1000
+    each zero l = h
+    each (suc i) l = absurd (omega arith)
+
+pub two-numbers : (a b : ℕ) → a < 1000 → b < 1000 → Numerals (a ∷ b ∷ [])
+two-numbers a b h k = record { some = omega arith; small = each }
+  where
+    each : (i : ℕ) → i < 2 → getD (a ∷ b ∷ []) i 0 < 1000
+    each zero l = h
+    each (suc i) l = one-number b k .small i (omega arith)

@@ -1,0 +1,1 @@
+// What load and write sheet owe each other: theory, with no functions.

@@ -1,0 +1,5 @@
+pub mod Below
+pub mod Tables
+pub mod Rings
+pub mod Marks
+pub mod Clauses
