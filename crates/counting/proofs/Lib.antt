@@ -5,3 +5,5 @@ pub mod Reach
 pub mod Orbits
 pub mod Lowest
 pub mod Paths
+pub mod Stores
+pub mod Below

@@ -1,4 +1,5 @@
 pub mod Counts
 pub mod Below
+pub mod Choice
 pub mod Paths
 pub mod Orbits

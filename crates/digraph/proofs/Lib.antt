@@ -1,4 +1,3 @@
-pub mod Stores
 pub mod Tests
 pub mod Relaxation
 pub mod Visits

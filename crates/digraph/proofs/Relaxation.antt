@@ -14,8 +14,8 @@ use Rattle.counting.proofs.Paths.{append, circle}
 use Rattle.digraph.specs.declared.Layering.{Layering}
 use Rattle.digraph.specs.Digraph.{Leads, Within, Leveled, flat}
 use Rattle.digraph.specs.Relaxed.{higherOf, raised, relaxed, rounds, climbs, answer, withinOf, levelsOf, Levels-Mean}
-use Rattle.digraph.proofs.Stores.{Stored, stored}
-use Rattle.digraph.proofs.Stores.Stored.{same, other}
+use Rattle.counting.proofs.Stores.{Stored, stored}
+use Rattle.counting.proofs.Stores.Stored.{here as same, apart as other}
 use Rattle.digraph.proofs.Tests.{within-is, within-true, climbs-all, climbs-not}
 
 pub flat-size : length flat ≡ 256
@@ -29,14 +29,14 @@ flat-at v = by-cases (decLt v 256) (λ l. getD-replicate 256 v 0 0 l) (λ l. Lis
 -- ---- one edge
 
 module _ (level : List ℕ) (u v : ℕ) (h : v < length level) where
-  raised-view : (w : ℕ) → Stored level v (higherOf (getD level v 0) (getD level u 0)) w
-  raised-view w = stored level v _ w h
+  raised-view : (w : ℕ) → Stored level v (higherOf (getD level v 0) (getD level u 0)) w 0
+  raised-view w = stored level v _ w 0 h
 
   raised-kept : (w : ℕ) → getD level w 0 ≤ getD (raised level u v) w 0
   unfolding raised
   raised-kept w = go (raised-view w)
     where
-      go : Stored level v (higherOf (getD level v 0) (getD level u 0)) w → getD level w 0 ≤ getD (set level v (higherOf (getD level v 0) (getD level u 0))) w 0
+      go : Stored level v (higherOf (getD level v 0) (getD level u 0)) w 0 → getD level w 0 ≤ getD (set level v (higherOf (getD level v 0) (getD level u 0))) w 0
       go (same e q) = omega (arith, q, ap (λ x. getD level x 0) e)
       go (other n q) = omega arith
 
@@ -44,7 +44,7 @@ module _ (level : List ℕ) (u v : ℕ) (h : v < length level) where
   unfolding raised
   raised-above = go (raised-view v)
     where
-      go : Stored level v (higherOf (getD level v 0) (getD level u 0)) v → getD level u 0 < getD (set level v (higherOf (getD level v 0) (getD level u 0))) v 0
+      go : Stored level v (higherOf (getD level v 0) (getD level u 0)) v 0 → getD level u 0 < getD (set level v (higherOf (getD level v 0) (getD level u 0))) v 0
       go (same e q) = omega arith
       go (other n q) = absurd (n refl)
 
@@ -74,10 +74,10 @@ module _ {nodes edges : ℕ} {from to : List ℕ} (W : Within nodes edges from t
       new : ℕ
       new = higherOf (getD level (getD to k 0) 0) (getD level (getD from k 0) 0)
 
-      view : (v : ℕ) → Stored level (getD to k 0) new v
-      view v = stored level (getD to k 0) new v (target-in level s k l)
+      view : (v : ℕ) → Stored level (getD to k 0) new v 0
+      view v = stored level (getD to k 0) new v 0 (target-in level s k l)
 
-      reach : (v : ℕ) → Stored level (getD to k 0) new v → (a : ℕ) × Path (Leads edges from to) a v (getD (set level (getD to k 0) new) v 0)
+      reach : (v : ℕ) → Stored level (getD to k 0) new v 0 → (a : ℕ) × Path (Leads edges from to) a v (getD (set level (getD to k 0) new) v 0)
       reach v (same e q) =
           by-cases (decLt (getD level (getD from k 0) 0) (getD level (getD to k 0) 0))
           (λ b. let (a, p) = s .path v in
@@ -88,7 +88,7 @@ module _ {nodes edges : ℕ} {from to : List ℕ} (W : Within nodes edges from t
           (a, rw m (more p (record { edge = k; inside = l; source = refl; target = sym e }))))
       reach v (other n q) = let (a, p) = s .path v in (a, rw q p)
 
-      past : (v : ℕ) → nodes ≤ v → Stored level (getD to k 0) new v → getD (set level (getD to k 0) new) v 0 ≡ 0
+      past : (v : ℕ) → nodes ≤ v → Stored level (getD to k 0) new v 0 → getD (set level (getD to k 0) new) v 0 ≡ 0
       past v h (same e q) = absurd (omega (arith, W .to-in k l))
       past v h (other n q) = q ∙ s .rest v h
 

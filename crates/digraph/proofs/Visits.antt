@@ -18,8 +18,8 @@ use Rattle.counting.proofs.Paths.{before, no-circle, short}
 use Rattle.digraph.specs.Relaxed.{higherOf}
 use Rattle.digraph.specs.Visits.{Listed, Enters, Lists, Known, Ready, Grown, Visited}
 use Rattle.digraph.specs.Visits.Listed.{head, later}
-use Rattle.digraph.proofs.Stores.{Stored, stored}
-use Rattle.digraph.proofs.Stores.Stored.{same, other}
+use Rattle.counting.proofs.Stores.{Stored, stored}
+use Rattle.counting.proofs.Stores.Stored.{here as same, apart as other}
 
 -- ---- the lists of edges
 
@@ -128,9 +128,9 @@ module _ {edges : ℕ} {from first after : List ℕ} (L : Lists edges from after
     module _ {depth : List ℕ} {most k : ℕ} (T : Turn edges from first after v marked depth most k) where
       -- v leads to every node whose visit is under way
       leads : (u : ℕ) → getD depth u 0 ≡ 1 → (i : ℕ) × Path (Enters edges from first after) v u i
-      leads u e = go (stored old v 1 u (omega (arith, R .inside, R .known .size)))
+      leads u e = go (stored old v 1 u 0 (omega (arith, R .inside, R .known .size)))
         where
-          go : Stored old v 1 u → (i : ℕ) × Path (Enters edges from first after) v u i
+          go : Stored old v 1 u 0 → (i : ℕ) × Path (Enters edges from first after) v u i
           go (same p q) = (0, rw p here)
           go (other n q) = R .leads u (sym q ∙ T .grown .ended u e)
 

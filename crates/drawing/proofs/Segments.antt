@@ -15,7 +15,8 @@ use Rattle.sheet.specs.Darts.{tail, head, darts, isTail, vertex, touches}
 use Rattle.sheet.specs.Sound.{Sound}
 use Rattle.sheet.specs.Check.{column}
 use Rattle.soundness.specs.Maps.{mapOf}
-use Rattle.soundness.proofs.Tests.{Says, eq-says, or-says, getD-tabulate}
+use Rattle.counting.proofs.Below.{getD-tabulated}
+use Rattle.soundness.proofs.Tests.{Says, eq-says, or-says}
 use Rattle.soundness.proofs.Darts.{dart, dart-is, dart-kind, dart-edge, dart-below, dart-opposite, dart-vertex, edge-below}
 use Rattle.soundness.proofs.Plane.{plane-of}
 use Rattle.drawing.specs.Draw.{edgeColumn, columnsAt, least, greatest, vertexSegment, edgeSegment, noVertexSegment, noEdgeSegment, drawingOf}
@@ -27,11 +28,11 @@ use Rattle.drawing.proofs.Extremes.{Extreme, least-extreme, greatest-ex
 module _ (s : Sheet) where
   pub vertex-entry : (v : ℕ) → v < s .vertices → vertexOf (drawingOf s) v ≡ vertexSegment s v
   unfolding drawingOf
-  vertex-entry v h = getD-tabulate (vertexSegment s) (replicate (128 - s .vertices) noVertexSegment) noVertexSegment (s .vertices) v h
+  vertex-entry v h = getD-tabulated (vertexSegment s) (replicate (128 - s .vertices) noVertexSegment) noVertexSegment (s .vertices) v h
 
   pub edge-entry : (k : ℕ) → k < s .edges → edgeOf (drawingOf s) k ≡ edgeSegment s k
   unfolding drawingOf
-  edge-entry k h = getD-tabulate (edgeSegment s) (replicate (256 - s .edges) noEdgeSegment) noEdgeSegment (s .edges) k h
+  edge-entry k h = getD-tabulated (edgeSegment s) (replicate (256 - s .edges) noEdgeSegment) noEdgeSegment (s .edges) k h
 
   pub edge-stands : (k : ℕ) → k < s .edges → edgeOf (drawingOf s) k .column ≡ edgeColumn s k
   unfolding edgeSegment

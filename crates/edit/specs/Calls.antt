@@ -4,7 +4,7 @@ use mathlib.Core.Bool.{Bool, not, _&&_, _||_}
 use mathlib.Core.List.{List, [], _∷_}
 use lib.Dec.{eqb, leb}
 use Rattle.counting.specs.Counts.{count}
-use Rattle.text.specs.Reading.{pick}
+use Rattle.counting.specs.Choice.{pick}
 use Rattle.sheet.specs.declared.Sheet.{Sheet}
 use Rattle.sheet.specs.declared.Answer.{Answer}
 use Rattle.sheet.specs.declared.Answer.the-variants.{NotSound, NotInSheet, Full, RootEdge, CornersApart, ClosesCircle, EdgeNeeded, VertexNeeded, BadLayout}

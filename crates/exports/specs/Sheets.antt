@@ -1,10 +1,11 @@
--- A sheet from its parts, and what load answers in parts.
+-- A sheet from its parts, and what load and write sheet answer in parts.
 use Prim.Native.Nat.{ℕ}
 use mathlib.Core.Path.{_≡_}
 use mathlib.Core.List.{List}
 use Rattle.sheet.specs.declared.Sheet.{Sheet}
 use Rattle.sheet.specs.Answers.{refusalNumber}
 use Rattle.format.specs.declared.Loaded.{Loaded}
+use Rattle.format.specs.declared.Written.{Written}
 
 abbrev pub sheetOf : ℕ → ℕ → List ℕ → List ℕ → List ℕ → Sheet
 sheetOf vertices edges tails heads nexts = record { vertices = vertices; edges = edges; tails = tails; heads = heads; nexts = nexts }
@@ -14,3 +15,9 @@ pub record Parts (l : Loaded) (number vertices edges : ℕ) (tails heads nexts :
   pub answer : number ≡ refusalNumber (l .answer)
   pub sheet : sheetOf vertices edges tails heads nexts ≡ l .sheet
   pub bytes : taken ≡ l .taken
+
+-- the answer's number, the bytes written, and the buffer afterwards
+pub record Filled (w : Written) (after : List ℕ) (number count : ℕ) (buffer : List ℕ) : Type 0 where
+  pub answer : number ≡ refusalNumber (w .answer)
+  pub bytes : count ≡ w .count
+  pub filled : buffer ≡ after

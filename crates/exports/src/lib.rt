@@ -5,9 +5,10 @@ ghost use Rattle.orbits.specs.Tables.{traced};
 ghost use Rattle.sheet.specs.Answers.{refusalNumber};
 ghost use Rattle.sheet.specs.Check.{sound};
 ghost use Rattle.format.specs.Load.{load};
+ghost use Rattle.format.specs.Write.{writeSheet, bufferAfterSheet};
 ghost use Rattle.edit.specs.Lines.{readEdit};
 ghost use Rattle.exports.specs.Edits.{kindOf, numbersIn};
-ghost use Rattle.exports.specs.Sheets.{sheetOf, Parts};
+ghost use Rattle.exports.specs.Sheets.{sheetOf, Parts, Filled};
 use edit::Edit;
 use sheet::Answer;
 use sheet::Sheet;
@@ -125,6 +126,35 @@ pub extern "C" fn walnut_load(
     *nexts = new_nexts;
     *taken = loaded.taken;
     let answer = loaded.answer;
+    number(answer)
+}
+
+// Write sheet.
+#[no_mangle]
+pub extern "C" fn walnut_write_sheet(
+    vertices: usize,
+    edges: usize,
+    tails: &[u16; 256],
+    heads: &[u16; 256],
+    nexts: &[u16; 512],
+    buffer: &mut [u8],
+    count: &mut usize,
+) -> u16
+    ensures { λ r. ⌜ Filled (writeSheet (sheetOf vertices edges (now (tails .entry)) (now (heads .entry)) (now (nexts .entry))) (now (buffer .entry))) (bufferAfterSheet (sheetOf vertices edges (now (tails .entry)) (now (heads .entry)) (now (nexts .entry))) (now (buffer .entry))) r (now (count .exit)) (now (buffer .exit)) ⌝ }
+{
+    let t = *tails;
+    let h = *heads;
+    let n = *nexts;
+    let sheet = Sheet {
+        vertices,
+        edges,
+        tails: t,
+        heads: h,
+        nexts: n,
+    };
+    let written = format::write_sheet(sheet, buffer);
+    *count = written.count;
+    let answer = written.answer;
     number(answer)
 }
 

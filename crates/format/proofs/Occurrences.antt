@@ -14,7 +14,7 @@ use lib.Seq.{getD-set-same, getD-set-other}
 use Rattle.counting.specs.Counts.{bit, count}
 use Rattle.counting.proofs.Iterate.{total, by-bool}
 use Rattle.sheet.specs.Darts.{touches}
-use Rattle.sheet.proofs.Below.{all-at, all-of}
+use Rattle.counting.proofs.Below.{all-at, all-of}
 use Rattle.format.specs.Rings.{occurrences, allIn, isRotation}
 use Rattle.format.specs.Steps.{sheetOf, touchesAt, fitsOf, fitFrom}
 

@@ -3,3 +3,4 @@ pub mod Rings
 pub mod Load
 pub mod Steps
 pub mod Write
+pub mod Texts

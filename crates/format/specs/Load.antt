@@ -4,7 +4,8 @@ use mathlib.Core.Bool.{not, _&&_}
 use mathlib.Core.List.{List}
 use lib.Dec.{eqb, ltb, leb}
 use lib.ListN.{set, replicate}
-use Rattle.text.specs.Reading.{pick, Listed, lineAt}
+use Rattle.counting.specs.Choice.{pick}
+use Rattle.text.specs.Reading.{Listed, lineAt}
 use Rattle.text.specs.Shapes.{withOne, withTwo, withSome}
 use Rattle.sheet.specs.declared.Sheet.{Sheet}
 use Rattle.sheet.specs.declared.Answer.{Answer}

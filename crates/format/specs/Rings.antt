@@ -6,7 +6,7 @@ use lib.Dec.{eqb, ltb}
 use lib.ListN.{getD, set}
 use Rattle.counting.specs.Counts.{bit}
 use Rattle.counting.specs.Below.{allBelow, lowestBelow}
-use Rattle.text.specs.Reading.{pick}
+use Rattle.counting.specs.Choice.{pick}
 use Rattle.sheet.specs.declared.Sheet.{Sheet}
 use Rattle.sheet.specs.Darts.{darts, touches, dartAt, next}
 

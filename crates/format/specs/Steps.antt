@@ -8,7 +8,8 @@ use lib.Dec.{eqb, ltb, leb}
 use lib.ListN.{getD, set, length, replicate}
 use Rattle.text.specs.declared.Number.{Number}
 use Rattle.text.specs.declared.Number.the-variants.{Value, Missing}
-use Rattle.text.specs.Reading.{pick, Listed, numbersAt}
+use Rattle.counting.specs.Choice.{pick}
+use Rattle.text.specs.Reading.{Listed, numbersAt}
 use Rattle.text.specs.Reading.Listed.{listed, unlisted}
 use Rattle.text.specs.Shapes.{withOne}
 use Rattle.sheet.specs.declared.Sheet.{Sheet}

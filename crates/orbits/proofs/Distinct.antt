@@ -15,8 +15,8 @@ use Rattle.counting.specs.Orbits.{Perm}
 use Rattle.counting.proofs.Iterate.{by-bool, clash}
 use Rattle.orbits.specs.Tables.{permutesFrom, isPermutation}
 use Rattle.orbits.specs.Meaning.{entries, Permutation-Law}
-use Rattle.orbits.proofs.Stores.{Stored, stored}
-use Rattle.orbits.proofs.Stores.Stored.{here, apart}
+use Rattle.counting.proofs.Stores.{Stored, stored}
+use Rattle.counting.proofs.Stores.Stored.{here, apart}
 
 -- the first e entries are below `size`, no two are the same, and all are marked
 record Distinct (size : ℕ) (table : List ℕ) (seen : List Bool) (e : ℕ) : Type 0 where

@@ -1,5 +1,4 @@
 pub mod Turns
-pub mod Stores
 pub mod Walks
 pub mod Numbering
 pub mod Distinct

@@ -11,8 +11,8 @@ use Rattle.counting.specs.Orbits.{Perm, iter, Reach}
 use Rattle.counting.proofs.Reach.{iter-below, reach-below, reach-refl, reach-trans, reach-sym}
 use Rattle.counting.proofs.Orbits.{kept-reach}
 use Rattle.orbits.specs.Meaning.{entries, Lead}
-use Rattle.orbits.proofs.Stores.{Stored, stored}
-use Rattle.orbits.proofs.Stores.Stored.{here, apart}
+use Rattle.counting.proofs.Stores.{Stored, stored}
+use Rattle.counting.proofs.Stores.Stored.{here, apart}
 
 -- the orbits of all elements below e have their numbers, which are below f; 512 stands for no number yet
 pub record Part (size : ℕ) (φ : ℕ → ℕ) (orbit : List ℕ) (e f : ℕ) : Type 0 where

@@ -4,12 +4,8 @@ use mathlib.Core.Bool.{Bool, true, false, not, _&&_, _||_}
 use mathlib.Core.List.{List, _++_}
 use lib.Dec.{eqb, leb, ltb}
 use lib.ListN.{getD, set, replicate}
+use Rattle.counting.specs.Choice.{pick}
 use Rattle.orbits.specs.declared.Traced.{Traced}
-
--- one of two, and only that one is computed
-abbrev pub pick : {A : Type 0} → Bool → (Unit {0} → A) → (Unit {0} → A) → A
-pick true a b = a tt
-pick false a b = b tt
 
 -- 512, for no number yet, at each element below `size`, and 0 past them
 unfoldable pub unnumberedBelow : ℕ → List ℕ

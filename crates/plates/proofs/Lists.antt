@@ -4,18 +4,15 @@ use mathlib.Core.Path.{_≡_, refl, ap₂}
 use mathlib.Core.Bool.{Bool, true, false, _&&_, false≢true}
 use mathlib.Core.List.{List, [], _∷_}
 use native.Mathlib.Omega.{arith}
-use lib.Dec.{T, eqb, eqb→eq}
+use lib.Dec.{eqb, eqb→eq}
 use lib.ListN.{length, getD}
+use Rattle.counting.proofs.Counts.{to-T}
 use Rattle.plates.specs.Program.{plateOutput}
 use Rattle.plates.specs.Plates.{Plate, same, allPrinted}
 
 both : (a b : Bool) → (a && b) ≡ true → (a ≡ true) × (b ≡ true)
 both true b e = (refl, e)
 both false b e = absurd (false≢true e)
-
-to-T : {b : Bool} → b ≡ true → T b
-to-T {b = true} e = tt
-to-T {b = false} e = absurd (false≢true e)
 
 -- texts that pass the test are equal
 same-equal : (xs ys : List ℕ) → same xs ys ≡ true → xs ≡ ys

@@ -5,7 +5,7 @@ use mathlib.Core.List.{List, [], _∷_, _++_}
 use lib.Dec.{ltb, leb}
 use lib.ListN.{length, drop}
 use Rattle.text.specs.Bytes.{bytes}
-use Rattle.text.specs.Reading.{pick}
+use Rattle.counting.specs.Choice.{pick}
 use Rattle.text.specs.Written.{line}
 use Rattle.sheet.specs.declared.Sheet.{Sheet}
 use Rattle.sheet.specs.declared.Answer.{Answer}

@@ -9,7 +9,8 @@ use native.Mathlib.Omega.{arith}
 use lib.Dec.{eqb, ltb, leb}
 use lib.ListN.{getD, length, set, length-set}
 use lib.Seq.{getD-set-same, getD-set-other}
-use Rattle.text.specs.Reading.{pick, Listed, lineAt}
+use Rattle.counting.specs.Choice.{pick}
+use Rattle.text.specs.Reading.{Listed, lineAt}
 use Rattle.text.specs.Reading.Listed.{listed, unlisted}
 use Rattle.text.specs.Shapes.{withOne, withTwo, withSome}
 use Rattle.sheet.specs.declared.Sheet.{Sheet}

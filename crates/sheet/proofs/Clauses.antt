@@ -26,7 +26,7 @@ use Rattle.sheet.specs.Darts.{tail, head, darts}
 use Rattle.sheet.specs.Check.{withinLimits, joined, unusedZero, rooted, rowLevels, acyclic, incoming, outgoing, poles, faceTable, planar, sound, judge}
 use Rattle.sheet.specs.Findings.{refused, accepted, structured, judgedOf, findingsOf}
 use Rattle.sheet.specs.Arrays.{sheetOf, limitsOf, joinsAt, zeroAt, unusedOf, Ends, dartTable, walkOf, ringsOf, endOf, poleAt, polesOf, rootedOf}
-use Rattle.sheet.proofs.Below.{all-at, all-agree, all-both}
+use Rattle.counting.proofs.Below.{all-at, all-agree, all-both}
 use Rattle.sheet.proofs.Rings.{rings-are}
 
 unused-is : (s : Sheet) → unusedZero s ≡ unusedOf (s .edges) (s .tails) (s .heads) (s .nexts)

@@ -12,7 +12,7 @@ use lib.ListN.{getD, set, length-set, replicate}
 use lib.Seq.{getD-set-same, getD-set-other, ext-getD}
 use Rattle.counting.specs.Below.{someBelow, tabulate}
 use Rattle.sheet.specs.Arrays.{endOf, poleAt}
-use Rattle.sheet.proofs.Below.{length-tabulate, getD-tabulate}
+use Rattle.counting.proofs.Below.{length-tabulate, getD-tabulate}
 
 pub marks-none : (ends : List ℕ) → replicate 256 false ≡ tabulate (endOf ends 0) 256
 unfolding endOf someBelow tabulate

@@ -20,7 +20,8 @@ use Rattle.sheet.specs.declared.Sheet.{Sheet}
 use Rattle.sheet.specs.Darts.{isTail, darts, vertex, next}
 use Rattle.sheet.specs.Check.{inRings}
 use Rattle.sheet.specs.Arrays.{Ends, dartTable, vertexOf, ringAt, Readable, ringsOf}
-use Rattle.sheet.proofs.Below.{all-fails, all-of, all-agree, dart-at}
+use Rattle.counting.proofs.Below.{all-fails, all-of, all-agree}
+use Rattle.sheet.proofs.Below.{dart-at}
 
 -- of the first k darts: each is followed by a dart at its vertex, and `seen` has the ring of each at its vertex, and 512 at the other vertices
 pub record Seen (at nexts ring : List ℕ) (k : ℕ) (seen : List ℕ) : Type 0 where

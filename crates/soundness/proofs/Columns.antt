@@ -21,7 +21,7 @@ use Rattle.sheet.specs.Levels.FaceLeads.{across as left-to-right, root as right
 use Rattle.sheet.specs.Check.{face, faceCount, faceFrom, faceTo, edgeTable, columnLevels, column}
 use Rattle.soundness.specs.Maps.{mapOf}
 use Rattle.soundness.specs.Laws.{Columns}
-use Rattle.soundness.proofs.Tests.{getD-tabulate}
+use Rattle.counting.proofs.Below.{getD-tabulated}
 use Rattle.soundness.proofs.Darts.{dart, dart-is, dart-kind, dart-below, dart-opposite, edge-below}
 use Rattle.soundness.proofs.Levels.{path-over, circle-over, longest-over, level-longest}
 use Rattle.soundness.proofs.Faces.{faces-numbered}
@@ -32,7 +32,7 @@ module _ (s : Sheet) where
   -- an edge table's entry at a wire
   table-at : (g : ℕ → ℕ) (k : ℕ) → k < s .edges → getD (edgeTable g s) k 0 ≡ g k
   unfolding edgeTable
-  table-at g k h = getD-tabulate g (replicate (256 - s .edges) 0) 0 (s .edges) k h
+  table-at g k h = getD-tabulated g (replicate (256 - s .edges) 0) 0 (s .edges) k h
 
   to-step : (b c : ℕ) → FaceLeads s (face s) b c → FaceStep (mapOf s) b c
   to-step b c (left-to-right k h n p q) = across (record { below = dart-below true h; is-out = dart-kind true k }) (omega arith) p (ap (face s) (dart-opposite true k) ∙ q)

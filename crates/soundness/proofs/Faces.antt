@@ -13,7 +13,8 @@ use Rattle.sheet.specs.declared.Sheet.{Sheet}
 use Rattle.sheet.specs.Darts.{darts, opposite, walk}
 use Rattle.sheet.specs.Sound.{Faces, Euler}
 use Rattle.sheet.specs.Check.{faceTable, face, faceCount, planar}
-use Rattle.soundness.proofs.Tests.{Says, eq-says, reworded, getD-tabulate}
+use Rattle.counting.proofs.Below.{getD-tabulated}
+use Rattle.soundness.proofs.Tests.{Says, eq-says, reworded}
 use Rattle.soundness.proofs.Darts.{opposite-below, opposite-opposite}
 use Rattle.soundness.proofs.Rings.{Rotation}
 
@@ -33,7 +34,7 @@ module _ (s : Sheet) (few : s .edges ≤ 256) (r : Rotation s) where
 
   walks-at : (d : ℕ) → d < darts s → entries walks d ≡ walk s d
   unfolding walks
-  walks-at d h = getD-tabulate (walk s) (replicate (512 - darts s) 0) 0 (darts s) d h
+  walks-at d h = getD-tabulated (walk s) (replicate (512 - darts s) 0) 0 (darts s) d h
 
   walks-perm : Perm (darts s) (entries walks)
   walks-perm = record {

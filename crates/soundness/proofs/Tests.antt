@@ -1,16 +1,13 @@
--- What a test says, clause by clause, and laws of the tests and lists over the numbers below n. Assumes nothing.
+-- What a test says, clause by clause, and laws of the tests over the numbers below n. Assumes nothing.
 use mathlib.Core.Path.{_≡_, refl, sym, _∙_, ap}
 use mathlib.Core.Logic.{_↔_, _⊎_, inl, inr, by-cases}
 use mathlib.Core.Bool.{Bool, true, false, not, _&&_, _||_, Bool·beq, false≢true, and-eq-true-iff}
-use mathlib.Core.List.{List, [], _∷_, _++_, append-assoc}
 use Prim.Native.Nat.{ℕ, zero, suc, _≤_, _<_}
 use native.Mathlib.Decide.{ℕ-discrete}
 use native.Mathlib.Omega.{arith}
 use lib.Dec.{eqb, ltb, leb}
-use lib.ListN.{getD, length, length-append}
-use lib.Seq.{getD-append-seam}
 use borrow.Author.Tests.{ltb-true, leb-true, eqb-true, lt-ltb, le-leb, eq-eqb}
-use Rattle.counting.specs.Below.{allBelow, someBelow, tabulate}
+use Rattle.counting.specs.Below.{allBelow, someBelow}
 
 -- ---- what a test says
 
@@ -83,21 +80,3 @@ module _ {p : ℕ → Bool} {P : ℕ → Type 0} where
       reworded (or-says (some-says n x) (x n))
       (λ w. elim w [ inl (k, h, q) ↦ (k, omega arith, q) | inr q ↦ (n, omega arith, q) ])
       (λ (k, h, q). by-cases (ℕ-discrete k n) (λ e. inr (rw e at q)) (λ e. inl (k, omega arith, q)))
-
--- ---- the list f 0, f 1, …
-
-module _ {A : Type 0} (f : ℕ → A) where
-  pub length-tabulate : (n : ℕ) → length (tabulate f n) ≡ n
-  unfolding tabulate
-  length-tabulate zero = refl
-  length-tabulate (suc n) = length-append (tabulate f n) (f n ∷ []) ∙ (let ih = length-tabulate n in omega arith)
-
-  -- its entry k, whatever comes after it
-  pub getD-tabulate : (rest : List A) (other : A) (n k : ℕ) → k < n → getD (tabulate f n ++ rest) k other ≡ f k
-  unfolding tabulate
-  getD-tabulate rest other zero k h = absurd (omega arith)
-  getD-tabulate rest other (suc n) k h =
-      rw append-assoc
-      (by-cases (ℕ-discrete k n)
-      (λ e. ap (λ i. getD (tabulate f n ++ f n ∷ rest) i other) (e ∙ sym (length-tabulate n)) ∙ getD-append-seam (tabulate f n) (f n) rest other ∙ ap f (sym e))
-      (λ e. getD-tabulate (f n ∷ rest) other n k (omega arith)))

@@ -13,7 +13,8 @@ use lib.Seq.{sets, set-out}
 use Rattle.text.specs.declared.Number.{Number}
 use Rattle.text.specs.declared.Number.the-variants.{Value, Missing}
 use Rattle.text.specs.declared.Numbers.{Numbers}
-use Rattle.text.specs.Reading.{pick, numberAt, Listed, listed, unlisted, before, afterNumber, numbersFrom, numbersAt, numbersOf}
+use Rattle.counting.specs.Choice.{pick}
+use Rattle.text.specs.Reading.{numberAt, Listed, listed, unlisted, before, afterNumber, numbersFrom, numbersAt, numbersOf}
 use Rattle.text.proofs.DigitLaws.{low-digit, no-digit}
 use Rattle.text.proofs.Decimals.{number-stands}
 

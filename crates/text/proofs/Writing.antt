@@ -1,7 +1,9 @@
 -- Writing one text after the other. Assumes nothing.
-use Prim.Native.Nat.{ℕ, _+_, _≤_, _<_}
+use Prim.Native.Nat.{ℕ, _+_, _*_, _≤_, _<_}
 use mathlib.Core.Path.{_≡_, refl, sym, ap, _∙_}
+use mathlib.Core.Logic.{by-cases}
 use mathlib.Core.List.{List, [], _∷_, _++_, append-nil, append-assoc}
+use native.Mathlib.Decide.{decLt}
 use native.Mathlib.Nat.{add-zero}
 use native.Mathlib.Numerals.{add-one, add-two}
 use native.Mathlib.Omega.{arith}
@@ -9,6 +11,7 @@ use lib.ListN.{getD, length, take, drop, set, length-append, drop-of-length-le}
 use lib.Seq.{sets, length-sets, drop-cons, length-take-le, getD-take}
 use Rattle.text.specs.Written.{decimal, separated, lineEnd, line}
 use Rattle.text.proofs.Holding.{sets-append}
+use Rattle.text.proofs.Decimals.{one, two, three}
 
 -- what stores in a row leave
 module _ (d ds : List ℕ) (at a b c : ℕ) where
@@ -99,3 +102,32 @@ module _ (values : List ℕ) (count : ℕ) (long : count ≤ length values) wher
   pub last-parts : (k : ℕ) → count ≤ k → others (drop k (take count values)) ++ lineEnd ≡ lineEnd ++ []
   unfolding others
   last-parts k h = rw (drop-of-length-le (take count values) {i = k} (omega (arith, length-take-le count values long)))
+
+-- a line's length: one byte more for each number than its digits
+pub decimal-short : (v : ℕ) → length (decimal v) ≤ 3
+decimal-short v =
+    by-cases (decLt v 10) (λ a. omega (arith, ap length (one v a)))
+    (λ a. by-cases (decLt v 100) (λ b. omega (arith, ap length (two v (omega arith) b))) (λ b. omega (arith, ap length (three v (omega arith)))))
+
+pub line-size : (key vs : List ℕ) → 0 < length vs → length (line key vs) ≡ length key + length (others vs)
+unfolding others
+line-size key [] h = absurd (omega arith)
+line-size key (v ∷ vs) h = ap length (line-parts key (v ∷ vs) h) ∙ simp length-append (omega arith)
+
+pub others-size : (values : List ℕ) (count : ℕ) → count ≤ length values → (k : ℕ) → k < count
+    → length (others (drop k (take count values))) ≡ length (decimal (getD values k 0)) + 1 + length (others (drop (k + 1) (take count values)))
+others-size values count long k h = omega (arith, simp length-append at (ap length (next-parts values count long k h)))
+
+pub others-over : (values : List ℕ) (count k : ℕ) → count ≤ length values → count ≤ k → length (others (drop k (take count values))) ≡ 0
+unfolding others
+others-over values count k long h = rw (drop-of-length-le (take count values) {i = k} (omega (arith, length-take-le count values long)))
+
+others-short : (vs : List ℕ) → length (others vs) ≤ 4 * length vs
+unfolding others
+others-short [] = omega arith
+others-short (v ∷ vs) = omega (arith, length-append (44 ∷ decimal v) (others vs), decimal-short v, others-short vs)
+
+pub line-short : (key vs : List ℕ) → length (line key vs) ≤ length key + 1 + 4 * length vs
+unfolding line separated
+line-short key [] = let e : length (line key []) ≡ length key + 1 = length-append (key ++ []) lineEnd ∙ rw (append-nil key) refl in omega arith
+line-short key (v ∷ vs) = omega (arith, line-size key (v ∷ vs) (omega arith), others-short (v ∷ vs))

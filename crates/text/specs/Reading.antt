@@ -4,14 +4,10 @@ use mathlib.Core.List.{List, [], _∷_}
 use mathlib.Core.Bool.{Bool, true, false, cond, _&&_}
 use lib.ListN.{getD, length, drop}
 use lib.Dec.{leb, eqb}
+use Rattle.counting.specs.Choice.{pick}
 use Rattle.text.specs.declared.Number.{Number}
 use Rattle.text.specs.declared.Number.the-variants.{Value, Missing}
 use Rattle.text.specs.declared.Numbers.{Numbers}
-
--- one of two, of which only that one is computed
-abbrev pub pick {ℓ} : {A : Type ℓ} → Bool → (Unit {0} → A) → (Unit {0} → A) → A
-pick true a b = a tt
-pick false a b = b tt
 
 -- the value of a digit, or 10 of any other byte
 unfoldable pub digitOf : ℕ → ℕ

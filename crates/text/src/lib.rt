@@ -2,7 +2,7 @@
 ghost use mathlib.Core.Path.{_≡_};
 ghost use mathlib.Core.Bool.{cond};
 ghost use mathlib.Core.List.{[], _∷_};
-ghost use Prim.Native.Nat.{_+_, _<_, _≤_};
+ghost use Prim.Native.Nat.{_+_, _*_, _^_, _<_, _≤_};
 ghost use lib.ListN.{length, getD, take, drop, set};
 ghost use lib.Seq.{sets};
 ghost use Rattle.text.specs.Written.{decimal, lineEnd, line};
@@ -268,11 +268,26 @@ pub fn put_line_end(out: &mut [u8], at: usize) -> usize
     at + 1
 }
 
+// How many bytes a line has: a key, the first `count` values with a comma between, the line's end.
+pub fn line_length(key: &[u8], values: &[u16], count: usize) -> usize
+    requires { ⌜ (0 < count) × (count ≤ length (now values)) ⌝ }
+    requires { ⌜ length (now key) + 4 * count < 2 ^ 64 ⌝ }
+    ensures { λ r. ⌜ r ≡ length (line (now (key .entry)) (take count (now (values .entry)))) ⌝ }
+{
+    let mut sum = key.len();
+    let mut i = 0;
+    while i < count {
+        sum += digits(values[i]) + 1;
+        i += 1;
+    }
+    sum
+}
+
 // Puts a whole line: a key, the first `count` values with a comma between, the line's end.
-pub fn put_line(out: &mut [u8], at: usize, key: &[u8], values: [u16; 4], count: usize) -> usize
-    requires { ⌜ (0 < count) × (count ≤ 4) ⌝ }
-    requires { ⌜ at + length (line (now key) (take count values)) ≤ length (now out) ⌝ }
-    ensures { λ r. ⌜ (r ≡ at + length (line (now (key .entry)) (take count values))) × (now (out .exit) ≡ sets (now (out .entry)) at (line (now (key .entry)) (take count values))) ⌝ }
+pub fn put_line(out: &mut [u8], at: usize, key: &[u8], values: &[u16], count: usize) -> usize
+    requires { ⌜ (0 < count) × (count ≤ length (now values)) ⌝ }
+    requires { ⌜ at + length (line (now key) (take count (now values))) ≤ length (now out) ⌝ }
+    ensures { λ r. ⌜ (r ≡ at + length (line (now (key .entry)) (take count (now (values .entry))))) × (now (out .exit) ≡ sets (now (out .entry)) at (line (now (key .entry)) (take count (now (values .entry))))) ⌝ }
 {
     let first = put_bytes(out, at, key);
     let mut i = put_number(out, first, values[0]);

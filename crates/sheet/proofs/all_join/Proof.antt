@@ -5,7 +5,7 @@ use mathlib.Core.Bool.{true}
 use borrow.Author.Tests.{not-true, not-false}
 use Rattle.counting.specs.Below.{allBelow}
 use Rattle.sheet.specs.Arrays.{joinsAt}
-use Rattle.sheet.proofs.Below.{all-more, all-fails, all-over}
+use Rattle.counting.proofs.Below.{all-more, all-fails, all-over}
 use borrow.Author.Needs.{needs}
 use Rattle.sheet.proofs.all_join.Statement.{statement}
 use Rattle.sheet.proofs.all_join.Tie as tie

@@ -6,7 +6,7 @@ use native.Mathlib.Omega.{arith}
 use Rattle.counting.specs.Below.{allBelow}
 use Rattle.sheet.specs.Arrays.{poleAt}
 use Rattle.sheet.proofs.Marks.{pole-is}
-use Rattle.sheet.proofs.Below.{all-more, all-fails, all-over}
+use Rattle.counting.proofs.Below.{all-more, all-fails, all-over}
 use borrow.Author.Needs.{needs}
 use Rattle.sheet.proofs.only_pole.Statement.{statement}
 use Rattle.sheet.proofs.only_pole.Tie as tie

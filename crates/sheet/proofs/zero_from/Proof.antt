@@ -6,7 +6,7 @@ use borrow.Author.Tests.{lt-ltb, le-ltb, eq-eqb, ne-eqb}
 use lib.ListN.{getD, length}
 use Rattle.counting.specs.Below.{allBelow}
 use Rattle.sheet.specs.Arrays.{zeroAt}
-use Rattle.sheet.proofs.Below.{all-of, all-more, all-fails, all-over}
+use Rattle.counting.proofs.Below.{all-of, all-more, all-fails, all-over}
 use borrow.Author.Needs.{needs}
 use Rattle.sheet.proofs.zero_from.Statement.{statement}
 use Rattle.sheet.proofs.zero_from.Tie as tie

@@ -9,59 +9,65 @@ use Rattle.text.proofs.put_line.Statement.{statement}
 use Rattle.text.proofs.put_line.Tie as tie
 
 abbrev Inv-loop : tie.InvT-loop
-Inv-loop out₀ at key count values first i₀ k₀ out i k = (k ≤ count) × Left out₀ i₀ (others (drop 1 (take count values)) ++ lineEnd) out i (others (drop k (take count values)) ++ lineEnd)
+Inv-loop out₀ at key values count first i₀ k₀ out i k = (k ≤ count) × Left out₀ i₀ (others (drop 1 (take count values)) ++ lineEnd) out i (others (drop k (take count values)) ++ lineEnd)
 
 abbrev μ-loop : tie.MeasureT-loop
-μ-loop out₀ at key count values first i₀ k₀ out i k = count - k
+μ-loop out₀ at key values count first i₀ k₀ out i k = count - k
 
 -- what is left to write of the whole line, and its part from number k on
 abbrev Whole : (c : tie.Start Inv-loop μ-loop) → List ℕ → ℕ → List ℕ → Type 0
-Whole c out at rest = Left (c .args .out .now) (c .args .at) (line (c .args .key .now) (take (c .args .count) (c .args .t4))) out at rest
+Whole c out at rest = Left (c .args .out .now) (c .args .at) (line (c .args .key .now) (take (c .args .count) (c .args .values .now))) out at rest
 
 abbrev Tail : (c : tie.Start Inv-loop μ-loop) → ℕ → List ℕ
-Tail c k = others (drop k (take (c .args .count) (c .args .t4))) ++ lineEnd
+Tail c k = others (drop k (take (c .args .count) (c .args .values .now))) ++ lineEnd
 
-long : (c : tie.Start Inv-loop μ-loop) → c .args .count ≤ length (c .args .t4)
+long : (c : tie.Start Inv-loop μ-loop) → c .args .count ≤ length (c .args .values .now)
 long c = omega (arith, c .pre .0)
 
-begin : (c : tie.Start Inv-loop μ-loop) → Whole c (c .args .out .now) (c .args .at) (c .args .key .now ++ (decimal (getD (c .args .t4) 0 0) ++ Tail c 1))
-begin c = rw (← first-parts (c .args .t4) (c .args .count) (long c) (c .args .key .now) (c .pre .0 .0)) (left-all _ _ _)
+begin : (c : tie.Start Inv-loop μ-loop) → Whole c (c .args .out .now) (c .args .at) (c .args .key .now ++ (decimal (getD (c .args .values .now) 0 0) ++ Tail c 1))
+begin c = rw (← first-parts (c .args .values .now) (c .args .count) (long c) (c .args .key .now) (c .pre .0 .0)) (left-all _ _ _)
 
-keyed : (c : tie.After-put-bytes Inv-loop μ-loop) → Whole (c .before .before .before .before) (c .put-bytes .last .0) (c .put-bytes .result) (decimal (getD (c .before .before .before .before .args .t4) 0 0) ++ Tail (c .before .before .before .before) 1)
-keyed c = left-turn (c .before .before .before .before .args .key .now) _ (begin (c .before .before .before .before)) (c .put-bytes .ensures .0) (c .put-bytes .ensures .1)
+abbrev at-key : tie.After-put-bytes Inv-loop μ-loop → tie.Start Inv-loop μ-loop
+at-key c = c .before .before .before .before .before
 
-numbered : (c : tie.After-put-number Inv-loop μ-loop) → Whole (c .before .before .before .before .before .before .before .before) (c .put-number .last .0) (c .put-number .result) (Tail (c .before .before .before .before .before .before .before .before) 1)
-numbered c = left-turn (decimal (getD (c .before .before .before .before .before .before .before .before .args .t4) 0 0)) _ (keyed (c .before .before .before .before)) (c .put-number .ensures .0) (c .put-number .ensures .1)
+abbrev at-number : tie.After-put-number Inv-loop μ-loop → tie.After-put-bytes Inv-loop μ-loop
+at-number c = c .before .before .before .before .before
 
 abbrev started : tie.At-loop Inv-loop μ-loop → tie.Start Inv-loop μ-loop
-started c = c .before .before .before .before .before .before .before .before .before .before .before
+started c = at-key (at-number (c .before .before .before))
+
+keyed : (c : tie.After-put-bytes Inv-loop μ-loop) → Whole (at-key c) (c .put-bytes .last .0) (c .put-bytes .result) (decimal (getD (at-key c .args .values .now) 0 0) ++ Tail (at-key c) 1)
+keyed c = left-turn (at-key c .args .key .now) _ (begin (at-key c)) (c .put-bytes .ensures .0) (c .put-bytes .ensures .1)
+
+numbered : (c : tie.After-put-number Inv-loop μ-loop) → Whole (at-key (at-number c)) (c .put-number .last .0) (c .put-number .result) (Tail (at-key (at-number c)) 1)
+numbered c = left-turn (decimal (getD (at-key (at-number c) .args .values .now) 0 0)) _ (keyed (at-number c)) (c .put-number .ensures .0) (c .put-number .ensures .1)
 
 -- what the loop found fits the buffer
 fits : (c : tie.At-loop Inv-loop μ-loop) → c .before .before .before .put-number .result + length (Tail (started c) 1) ≤ length (c .before .before .before .put-number .last .0)
 fits c = left-fits (numbered (c .before .before .before)) (started c .pre .1)
 
 -- number k is the next
-following : (c : tie.In-loop Inv-loop μ-loop) → Left (c .before .before .before .before .put-number .last .0) (c .before .before .before .before .put-number .result) (Tail (started (c .before)) 1) (c .before .loop .out) (c .before .loop .i) ((44 ∷ decimal (getD (started (c .before) .args .t4) (c .before .loop .k) 0)) ++ Tail (started (c .before)) (c .before .loop .k + 1))
+following : (c : tie.In-loop Inv-loop μ-loop) → Left (c .before .before .before .before .put-number .last .0) (c .before .before .before .before .put-number .result) (Tail (started (c .before)) 1) (c .before .loop .out) (c .before .loop .i) ((44 ∷ decimal (getD (started (c .before) .args .values .now) (c .before .loop .k) 0)) ++ Tail (started (c .before)) (c .before .loop .k + 1))
 following c =
     let start = started (c .before) in
-    rw (next-parts (start .args .t4) (start .args .count) (long start) (c .before .loop .k) (c .loop-test .taken)) at (c .before .loop .inv .1)
+    rw (next-parts (start .args .values .now) (start .args .count) (long start) (c .before .loop .k) (c .loop-test .taken)) at (c .before .loop .inv .1)
 
 -- no number is left, the line's end is
 ending : (c : tie.After-loop Inv-loop μ-loop) → Left (c .before .before .before .before .put-number .last .0) (c .before .before .before .before .put-number .result) (Tail (started (c .before)) 1) (c .before .loop .out) (c .before .loop .i) (lineEnd ++ [])
 ending c =
     let start = started (c .before) in
-    rw (last-parts (start .args .t4) (start .args .count) (long start) (c .before .loop .k) (c .loop-test .left)) at (c .before .loop .inv .1)
+    rw (last-parts (start .args .values .now) (start .args .count) (long start) (c .before .loop .k) (c .loop-test .left)) at (c .before .loop .inv .1)
 
 put-bytes-requires : tie.Need-put-bytes-requires Inv-loop μ-loop
-put-bytes-requires c κs = let start = c .before .before .before in
+put-bytes-requires c κs = let start = c .before .before .before .before in
     left-room (start .args .key .now) _ (begin start) (start .pre .1)
 
-array-read-put-number : tie.Need-array-read-put-number Inv-loop μ-loop
-array-read-put-number c = search needs
+shared-slice-read-put-number : tie.Need-shared-slice-read-put-number Inv-loop μ-loop
+shared-slice-read-put-number c = search needs
 
 put-number-requires : tie.Need-put-number-requires Inv-loop μ-loop
-put-number-requires c κs = let start = c .before .before .before .before .before .before .before in
-    left-room (decimal (getD (start .args .t4) 0 0)) _ (keyed (c .before .before .before)) (start .pre .1)
+put-number-requires c κs = let put = c .before .before .before .before in
+    left-room (decimal (getD (at-key put .args .values .now) 0 0)) _ (keyed put) (at-key put .pre .1)
 
 loop-holds : tie.Need-loop-holds Inv-loop μ-loop
 loop-holds c = (search needs, left-all _ _ _)
@@ -69,12 +75,12 @@ loop-holds c = (search needs, left-all _ _ _)
 mul-put-next : tie.Need-mul-put-next Inv-loop μ-loop
 mul-put-next c = search needs
 
-array-read-put-next : tie.Need-array-read-put-next Inv-loop μ-loop
-array-read-put-next c = search needs
+shared-slice-read-put-next : tie.Need-shared-slice-read-put-next Inv-loop μ-loop
+shared-slice-read-put-next c = search needs
 
 put-next-requires : tie.Need-put-next-requires Inv-loop μ-loop
-put-next-requires c κs = let loop = c .before .before in
-    left-room (44 ∷ decimal (getD (started loop .args .t4) (loop .loop .k) 0)) _ (following (c .before)) (fits loop)
+put-next-requires c κs = let loop = c .before .before .before in
+    left-room (44 ∷ decimal (getD (started loop .args .values .now) (loop .loop .k) 0)) _ (following (c .before .before)) (fits loop)
 
 add-k : tie.Need-add-k Inv-loop μ-loop
 add-k c = search needs
@@ -84,8 +90,8 @@ loop-less c = search needs
 
 loop-again : tie.Need-loop-again Inv-loop μ-loop
 loop-again c = let put = c .before .before in
-    let loop = put .before .before .before in
-    (search needs, left-turn (44 ∷ decimal (getD (started loop .args .t4) (loop .loop .k) 0)) _ (following (put .before .before)) (put .put-next .ensures .0) (put .put-next .ensures .1))
+    let loop = put .before .before .before .before in
+    (search needs, left-turn (44 ∷ decimal (getD (started loop .args .values .now) (loop .loop .k) 0)) _ (following (put .before .before .before)) (put .put-next .ensures .0) (put .put-next .ensures .1))
 
 put-line-end-requires : tie.Need-put-line-end-requires Inv-loop μ-loop
 put-line-end-requires c κs = left-room lineEnd [] (ending (c .before)) (fits (c .before .before))
@@ -109,11 +115,11 @@ put-line-spec =
     Inv-loop
     μ-loop
     put-bytes-requires
-    array-read-put-number
+    shared-slice-read-put-number
     put-number-requires
     loop-holds
     mul-put-next
-    array-read-put-next
+    shared-slice-read-put-next
     put-next-requires
     add-k
     loop-less
