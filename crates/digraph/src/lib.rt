@@ -5,16 +5,11 @@ ghost use lib.ListN.{getD};
 ghost use Rattle.digraph.specs.Digraph.{flat};
 ghost use Rattle.digraph.specs.Relaxed.{higherOf, withinOf, levelsOf};
 ghost use Rattle.digraph.specs.Visits.{Enters, Lists, Chained, Ready, Visited, Surveyed, Lowered};
+use counting::wide;
 
 pub struct Layering {
     pub acyclic: bool,
     pub level: [u16; 256],
-}
-
-fn wide(x: u16) -> usize
-    ensures { λ r. ⌜ r ≡ x ⌝ }
-{
-    x as usize
 }
 
 // Whether the counts are within the arrays and each edge joins two nodes.

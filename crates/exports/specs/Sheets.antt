@@ -5,7 +5,7 @@ use mathlib.Core.List.{List}
 use Rattle.sheet.specs.declared.Sheet.{Sheet}
 use Rattle.sheet.specs.Answers.{refusalNumber}
 use Rattle.format.specs.declared.Loaded.{Loaded}
-use Rattle.format.specs.declared.Written.{Written}
+use Rattle.write.specs.declared.Written.{Written}
 
 abbrev pub sheetOf : ℕ → ℕ → List ℕ → List ℕ → List ℕ → Sheet
 sheetOf vertices edges tails heads nexts = record { vertices = vertices; edges = edges; tails = tails; heads = heads; nexts = nexts }

@@ -5,7 +5,7 @@ ghost use Rattle.orbits.specs.Tables.{traced};
 ghost use Rattle.sheet.specs.Answers.{refusalNumber};
 ghost use Rattle.sheet.specs.Check.{sound};
 ghost use Rattle.format.specs.Load.{load};
-ghost use Rattle.format.specs.Write.{writeSheet, bufferAfterSheet};
+ghost use Rattle.write.specs.Write.{writeSheet, bufferAfterSheet};
 ghost use Rattle.edit.specs.Lines.{readEdit};
 ghost use Rattle.exports.specs.Edits.{kindOf, numbersIn};
 ghost use Rattle.exports.specs.Sheets.{sheetOf, Parts, Filled};
@@ -152,7 +152,7 @@ pub extern "C" fn walnut_write_sheet(
         heads: h,
         nexts: n,
     };
-    let written = format::write_sheet(sheet, buffer);
+    let written = write::write_sheet(sheet, buffer);
     *count = written.count;
     let answer = written.answer;
     number(answer)

@@ -3,7 +3,3 @@ pub mod Walking
 pub mod Shapes
 pub mod Ends
 pub mod Turns
-pub mod Firsts
-pub mod Circuits
-pub mod Measure
-pub mod Outcomes

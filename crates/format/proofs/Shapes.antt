@@ -10,27 +10,10 @@ use Rattle.counting.proofs.Iterate.{by-bool}
 use Rattle.text.specs.declared.Numbers.{Numbers}
 use Rattle.text.specs.Reading.{Listed, startsWith, lineEndAt, numbersAt, closed, lineAt, numbersOf}
 use Rattle.text.specs.Reading.Listed.{listed, unlisted}
-use Rattle.text.specs.Shapes.{withTwo, withSome}
-use Rattle.text.proofs.Only.{numbers-only}
+use Rattle.text.specs.Shapes.{withSome}
+use Rattle.layout.proofs.Only.{numbers-only}
 use Rattle.format.specs.Steps.{valuesOf, numbersOn}
 use Rattle.format.proofs.Walking.{number-inside}
-
-module _ {A : Type 0} (bad : A) (good : ℕ → ℕ → ℕ → A) where
-  pub two-is : (l : Listed) → numbersOf l .count ≡ 2 → withTwo l bad good ≡ good (getD (numbersOf l .values) 0 0) (getD (numbersOf l .values) 1 0) (numbersOf l .next)
-  unfolding withTwo numbersOf
-  two-is unlisted e = absurd (omega arith)
-  two-is (listed [] next) e = absurd (omega arith)
-  two-is (listed (a ∷ []) next) e = absurd (omega arith)
-  two-is (listed (a ∷ b ∷ []) next) e = refl
-  two-is (listed (a ∷ b ∷ c ∷ vs) next) e = absurd (omega arith)
-
-  pub two-not : (l : Listed) → (numbersOf l .count ≡ 2 → ⊥) → withTwo l bad good ≡ bad
-  unfolding withTwo numbersOf
-  two-not unlisted n = refl
-  two-not (listed [] next) n = refl
-  two-not (listed (a ∷ []) next) n = refl
-  two-not (listed (a ∷ b ∷ []) next) n = absurd (n refl)
-  two-not (listed (a ∷ b ∷ c ∷ vs) next) n = refl
 
 -- a line of numbers: they stand after the key
 pub record Line (key s : List ℕ) (at : ℕ) (r : Numbers) : Type 0 where

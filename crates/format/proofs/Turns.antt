@@ -16,7 +16,7 @@ use Rattle.text.specs.declared.Numbers.{Numbers}
 use Rattle.text.specs.Reading.{Listed, lineAt, numbersOf}
 use Rattle.text.specs.Reading.Listed.{listed, unlisted}
 use Rattle.text.specs.Shapes.{withOne, withSome}
-use Rattle.text.proofs.Counted.{one-is, one-not}
+use Rattle.text.proofs.Counted.{one-is, one-not, two-is, two-not}
 use Rattle.sheet.specs.declared.Sheet.{Sheet}
 use Rattle.sheet.specs.Darts.{dartAt}
 use Rattle.sheet.specs.Refusals.{isAccepted}
@@ -33,7 +33,7 @@ use Rattle.format.specs.Load.{Parsed, emptySheet, withEdge, withNexts, j
 use Rattle.format.specs.Load.Parsed.{refused}
 use Rattle.format.specs.Steps.{sheetOf, noNexts, countOf, Joint, afterEdges, EdgesRead, afterRings, touchesAt, dartOf, numbersOn, fitFrom, linkedFrom, linked}
 use Rattle.format.proofs.Occurrences.{rotation-if, rotation-length, rotation-fits}
-use Rattle.format.proofs.Shapes.{two-is, two-not, line-some, line-none}
+use Rattle.format.proofs.Shapes.{line-some, line-none}
 
 -- ---- the count lines
 

@@ -13,11 +13,11 @@ use lib.Seq.{getD-set-same, getD-set-other, set-out}
 use Rattle.counting.proofs.Iterate.{by-bool}
 use Rattle.text.specs.declared.Number.{Number}
 use Rattle.text.specs.declared.Number.the-variants.{Value, Missing}
-use Rattle.text.specs.Layout.{Walk, single, more}
+use Rattle.layout.specs.Layout.{Walk, single, more}
 use Rattle.text.specs.Reading.{Listed, numberAt, numbersAt}
 use Rattle.text.specs.Reading.Listed.{listed, unlisted}
-use Rattle.text.proofs.Decimals.{number-stands}
-use Rattle.text.proofs.Only.{numbers-walk}
+use Rattle.layout.proofs.Decimals.{number-stands}
+use Rattle.layout.proofs.Only.{numbers-walk}
 use Rattle.format.specs.declared.rings.Entry.{Entry}
 use Rattle.format.specs.declared.rings.Entry.the-variants.{Edge, Bad}
 use Rattle.format.specs.Steps.{touchesAt, dartOf, fitsOf, edgeOf, marksOf, valuesOf, numbersOn, fitFrom, linkedFrom, linked, RingRead}

@@ -1,14 +1,13 @@
 -- A bar's wires clockwise, as an `around=` line lists them.
-use Prim.Native.Nat.{ℕ, zero, suc, _+_, _/_}
+use Prim.Native.Nat.{ℕ, _+_}
 use mathlib.Core.Bool.{Bool, true, _&&_}
 use mathlib.Core.List.{List, [], _∷_}
 use lib.Dec.{eqb, ltb}
 use lib.ListN.{getD, set}
 use Rattle.counting.specs.Counts.{bit}
-use Rattle.counting.specs.Below.{allBelow, lowestBelow}
-use Rattle.counting.specs.Choice.{pick}
+use Rattle.counting.specs.Below.{allBelow}
 use Rattle.sheet.specs.declared.Sheet.{Sheet}
-use Rattle.sheet.specs.Darts.{darts, touches, dartAt, next}
+use Rattle.sheet.specs.Darts.{touches, dartAt}
 
 -- how often k stands in the list
 unfoldable pub occurrences : ℕ → List ℕ → ℕ
@@ -31,12 +30,3 @@ linkFrom s v first (w ∷ x ∷ ws) nexts = linkFrom s v first (x ∷ ws) (set n
 
 abbrev pub linkRing : Sheet → ℕ → List ℕ → List ℕ → List ℕ
 linkRing s v ws nexts = linkFrom s v (getD ws 0 0) ws nexts
-
--- the wires of the ends from d on, up to where the ring returns to `start`
-unfoldable pub ringFrom : ℕ → Sheet → ℕ → ℕ → List ℕ
-ringFrom zero s start d = []
-ringFrom (suc n) s start d = d / 2 ∷ pick (eqb (next s d) start) (λ _. []) (λ _. ringFrom n s start (next s d))
-
--- each ring from its lowest wire number
-unfoldable pub rotation : Sheet → ℕ → List ℕ
-rotation s v = let start = dartAt s (lowestBelow (λ k. touches s k v) (s .edges)) v in ringFrom (darts s) s start start

@@ -1,9 +1,8 @@
-// Sheets as text: load and write sheet.
+// Sheets as text: load.
 ghost use mathlib.Core.Path.{_≡_};
 ghost use Prim.Native.Nat.{ℕ, _≤_, _<_};
 ghost use Rattle.format.specs.Load.{refused, emptySheet, judged, ringLines, edgeLines, loaded, load};
 ghost use Rattle.format.specs.Steps.{sheetOf, noNexts, Joint};
-ghost use Rattle.format.specs.Write.{writeSheet, bufferAfterSheet};
 use lines::Count;
 use lines::Step;
 use sheet::Answer;
@@ -11,19 +10,12 @@ use sheet::Sheet;
 
 mod lines;
 mod rings;
-mod write;
 
 // What load answers: the sheet, and how many bytes of the text it took.
 pub struct Loaded {
     pub answer: Answer,
     pub sheet: Sheet,
     pub taken: usize,
-}
-
-// What a writer answers: how many bytes of the lent buffer it filled.
-pub struct Written {
-    pub answer: Answer,
-    pub count: usize,
 }
 
 // A refused load: the present sheet comes back, and 0 bytes are taken.
@@ -110,29 +102,5 @@ pub fn load(text: &[u8], present: Sheet) -> Loaded
                 Count::Value(m, after) => load_edges(text, after, n, m, present),
             }
         }
-    }
-}
-
-// Writes a sheet's text to the front of the buffer. Refused, 9 and then 17, the buffer is untouched.
-pub fn write_sheet(s: Sheet, out: &mut [u8]) -> Written
-    ensures { λ r. ⌜ (r ≡ writeSheet s (now (out .entry))) × (now (out .exit) ≡ bufferAfterSheet s (now (out .entry))) ⌝ }
-{
-    if !sheet::is_sound(s) {
-        return Written {
-            answer: Answer::NotSound,
-            count: 0,
-        };
-    }
-    let firsts = write::first_darts(s);
-    if out.len() < write::text_length(s, &firsts) {
-        return Written {
-            answer: Answer::BufferTooShort,
-            count: 0,
-        };
-    }
-    let count = write::put_sheet(out, s, &firsts);
-    Written {
-        answer: Answer::Accepted,
-        count,
     }
 }

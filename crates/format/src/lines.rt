@@ -6,6 +6,7 @@ ghost use lib.ListN.{length};
 ghost use lib.Dec.{leb, ltb, eqb};
 ghost use Rattle.text.specs.Reading.{lineAt};
 ghost use Rattle.format.specs.Steps.{countOf, EdgesRead};
+use counting::wide;
 use sheet::Answer;
 
 // A count with the place after its line, or a refusal.
@@ -18,12 +19,6 @@ pub enum Count {
 pub enum Step {
     Next(usize),
     Refused(Answer),
-}
-
-pub fn wide(x: u16) -> usize
-    ensures { λ r. ⌜ r ≡ x ⌝ }
-{
-    x as usize
 }
 
 fn within(n: usize, most: usize) -> bool

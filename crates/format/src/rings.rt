@@ -6,7 +6,7 @@ ghost use Rattle.counting.specs.Counts.{count};
 ghost use Rattle.text.specs.Reading.{numberAt};
 ghost use Rattle.format.specs.Steps.{Joint, touchesAt, dartOf, fitsOf, edgeOf, marksOf, numbersOn, RingRead, RingsRead};
 use crate::lines::Step;
-use crate::lines::wide;
+use counting::wide;
 use sheet::Answer;
 use text::Number;
 

@@ -2,6 +2,7 @@
 ghost use mathlib.Core.Path.{_≡_};
 ghost use Prim.Native.Nat.{_<_, _≤_};
 ghost use Rattle.orbits.specs.Tables.{unnumberedBelow, traced, isPermutation};
+use counting::wide;
 
 // The number of each element's orbit, and how many orbits there are.
 pub struct Traced {
@@ -11,12 +12,6 @@ pub struct Traced {
 
 // Stands for the number of an element that has none yet.
 const NONE: u16 = 512;
-
-fn wide(x: u16) -> usize
-    ensures { λ r. ⌜ (r ≡ x) × (r < 65536) ⌝ }
-{
-    x as usize
-}
 
 // No number yet for the elements below `size`, 0 past them.
 fn unnumbered(size: usize) -> [u16; 512]

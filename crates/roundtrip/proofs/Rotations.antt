@@ -21,7 +21,8 @@ use Rattle.soundness.proofs.Tests.{Says, eq-says, or-says}
 use Rattle.soundness.proofs.Darts.{edge-below}
 use Rattle.soundness.proofs.Rings.{Rotation}
 use Rattle.soundness.proofs.Law.{rotation-of}
-use Rattle.format.specs.Rings.{linkRing, ringFrom, rotation}
+use Rattle.format.specs.Rings.{linkRing}
+use Rattle.write.specs.Rings.{ringFrom, rotation}
 use Rattle.roundtrip.proofs.Around.{Around}
 use Rattle.roundtrip.proofs.Ends.{EndAt, at-edge, at-below, at-end, end-touches, end-at}
 use Rattle.roundtrip.proofs.Linking.{link-at}

@@ -13,9 +13,9 @@ use Rattle.counting.specs.Below.{joinBelow}
 use Rattle.text.specs.Reading.{Listed, listed, lineAt}
 use Rattle.text.specs.Shapes.{withOne, withTwo, withSome}
 use Rattle.text.specs.Written.{line}
-use Rattle.text.specs.Layout.{Holds, Numerals}
-use Rattle.text.proofs.Holding.{holds-left, holds-right}
-use Rattle.text.proofs.Laws.{layout}
+use Rattle.layout.specs.Layout.{Holds, Numerals}
+use Rattle.layout.proofs.Holding.{holds-left, holds-right}
+use Rattle.layout.proofs.Laws.{layout}
 use Rattle.sheet.specs.declared.Sheet.{Sheet}
 use Rattle.sheet.specs.Answers.{refusalNumber}
 use Rattle.sheet.specs.Refusals.{isAccepted}
@@ -25,10 +25,11 @@ use Rattle.soundness.proofs.Rings.{vertex-below}
 use Rattle.soundness.proofs.Judge.{passed-says, judge-law}
 use Rattle.soundness.proofs.Law.{sound-law}
 use Rattle.format.specs.Keys.{barsKey, wiresKey, wireKey, aroundKey}
-use Rattle.format.specs.Rings.{isRotation, linkRing, rotation}
+use Rattle.format.specs.Rings.{isRotation, linkRing}
+use Rattle.write.specs.Rings.{rotation}
 use Rattle.format.specs.Load.{Parsed, emptySheet, withEdge, withNexts, judged, ringLines, edgeLines, withCount, parse, loaded}
 use Rattle.format.specs.Load.Parsed.{parsed}
-use Rattle.format.specs.Write.{sheetText}
+use Rattle.write.specs.Write.{sheetText}
 use Rattle.roundtrip.specs.Laws.{Round-Trip}
 use Rattle.roundtrip.proofs.Entries.{zeros, zeros-length, zeros-each, Filled, filled-none, filled-more, filled-all}
 use Rattle.roundtrip.proofs.Around.{around-law}

@@ -9,8 +9,8 @@ use native.Mathlib.Numerals.{add-one}
 use native.Mathlib.Omega.{arith}
 use lib.ListN.{getD, length, length-append, List·getD-append}
 use Rattle.counting.specs.Below.{joinBelow}
-use Rattle.text.specs.Layout.{Holds, Numerals}
-use Rattle.text.proofs.Holding.{holds-left, holds-right}
+use Rattle.layout.specs.Layout.{Holds, Numerals}
+use Rattle.layout.proofs.Holding.{holds-left, holds-right}
 
 -- at the front, whatever follows
 pub holds-front : (ds rest : List ℕ) → Holds (ds ++ rest) 0 ds

@@ -13,7 +13,7 @@ use Rattle.sheet.specs.Refusals.{isAccepted}
 use Rattle.sheet.specs.Check.{sound}
 use Rattle.soundness.proofs.Refusals.{accepts}
 use Rattle.soundness.proofs.Law.{sound-law}
-use Rattle.format.specs.Write.{sheetText, writeAnswer, written, bufferAfter}
+use Rattle.write.specs.Write.{sheetText, writeAnswer, written, bufferAfter}
 use Rattle.roundtrip.specs.Laws.{Written-Loads}
 use Rattle.roundtrip.proofs.RoundTrip.{round-trip}
 

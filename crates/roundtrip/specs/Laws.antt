@@ -8,7 +8,7 @@ use Rattle.sheet.specs.declared.Answer.the-variants.{Accepted}
 use Rattle.sheet.specs.Darts.{Sized}
 use Rattle.sheet.specs.Sound.{Sound}
 use Rattle.format.specs.Load.{load}
-use Rattle.format.specs.Write.{sheetText, writeSheet, bufferAfterSheet}
+use Rattle.write.specs.Write.{sheetText, writeSheet, bufferAfterSheet}
 
 -- What load accepts is sound.
 abbrev pub Loaded-Sound : Type 0

@@ -10,6 +10,7 @@ ghost use Rattle.sheet.specs.Fresh.{freshSheet};
 ghost use Rattle.sheet.specs.Check.{sound, judge};
 ghost use Rattle.sheet.specs.Findings.{refused, structured, judgedOf, findingsOf};
 ghost use Rattle.sheet.specs.Arrays.{sheetOf, limitsOf, joinsAt, zeroAt, unusedOf, Ends, dartTable, vertexOf, walkOf, ringAt, Readable, ringsOf, endOf, poleAt, polesOf, rootedOf};
+use counting::wide;
 
 // A sheet by value. Edge k (document 01's wire k) goes from vertex (bar) tails[k] to heads[k]. Dart 2k (end 2k)
 // is its end at the tail, dart 2k + 1 its end at the head; nexts[d] is the next dart clockwise at the same vertex.
@@ -75,13 +76,6 @@ pub struct Findings {
 
 // Stands for the ring of a vertex of which no dart was seen.
 const NONE: u16 = 512;
-
-// The number as an index.
-fn wide(x: u16) -> usize
-    ensures { λ r. ⌜ (r ≡ x) × (r < 65536) ⌝ }
-{
-    x as usize
-}
 
 // Whether the answer is acceptance.
 pub fn is_accepted(a: Answer) -> bool

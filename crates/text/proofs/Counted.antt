@@ -25,6 +25,22 @@ module _ {A : Type 0} (bad : A) where
   one-not good (listed (a ∷ []) next) e = absurd (e refl)
   one-not good (listed (a ∷ b ∷ vs) next) e = refl
 
+  pub two-is : (good : ℕ → ℕ → ℕ → A) (l : Listed) → numbersOf l .count ≡ 2 → withTwo l bad good ≡ good (getD (numbersOf l .values) 0 0) (getD (numbersOf l .values) 1 0) (numbersOf l .next)
+  unfolding withTwo numbersOf
+  two-is good unlisted e = absurd (omega arith)
+  two-is good (listed [] next) e = absurd (omega arith)
+  two-is good (listed (a ∷ []) next) e = absurd (omega arith)
+  two-is good (listed (a ∷ b ∷ []) next) e = refl
+  two-is good (listed (a ∷ b ∷ c ∷ vs) next) e = absurd (omega arith)
+
+  pub two-not : (good : ℕ → ℕ → ℕ → A) (l : Listed) → numbersOf l .count ≢ 2 → withTwo l bad good ≡ bad
+  unfolding withTwo numbersOf
+  two-not good unlisted e = refl
+  two-not good (listed [] next) e = refl
+  two-not good (listed (a ∷ []) next) e = refl
+  two-not good (listed (a ∷ b ∷ []) next) e = absurd (e refl)
+  two-not good (listed (a ∷ b ∷ c ∷ vs) next) e = refl
+
   pub four-is : (good : ℕ → ℕ → ℕ → ℕ → ℕ → A) (l : Listed) → numbersOf l .count ≡ 4
       → withFour l bad good ≡ good (getD (numbersOf l .values) 0 0) (getD (numbersOf l .values) 1 0) (getD (numbersOf l .values) 2 0) (getD (numbersOf l .values) 3 0) (numbersOf l .next)
   unfolding numbersOf withFour

@@ -1,9 +1,9 @@
 -- The digit at a place, and the number by the digits that are read. Assumes nothing.
 use Prim.Native.Nat.{ℕ, _+_, _-_, _*_, _≤_, _<_}
-use mathlib.Core.Path.{_≡_}
+use mathlib.Core.Path.{_≡_, refl, subst₂}
 use mathlib.Core.List.{List}
 use native.Mathlib.Omega.{arith}
-use native.Mathlib.Decide.{decLt}
+use native.Mathlib.Decide.{decLt, ℕ-discrete}
 use borrow.Author.Tests.{le-leb, lt-leb, eq-eqb, ne-eqb}
 use lib.ListN.{getD, length, List·getD-eq-default}
 use Rattle.text.specs.declared.Number.the-variants.{Value, Missing}
@@ -79,3 +79,57 @@ module _ (s : List ℕ) (at a : ℕ) (ea : a ≡ digitAt s at) where
         pub four-digits : d < 10 → Missing ≡ numberAt s at
         unfolding numberOf
         four-digits h = rw (← ea, ← eb, ← ec, ← ed, lt-leb 10 a la, lt-leb 10 b lb, ne-eqb a 0 na, lt-leb 10 c lc, lt-leb 10 d h)
+
+-- what holds of a number of one digit, of two and of three holds of every number that is read
+module _ (s : List ℕ) (at : ℕ) (P : ℕ → ℕ → Type 0) where
+  abbrev One : Type 0
+  One = (a : ℕ) → a ≡ digitAt s at → a < 10 → 10 ≤ digitAt s (at + 1) → P a (at + 1)
+
+  abbrev Two : Type 0
+  Two = (a : ℕ) → a ≡ digitAt s at → a < 10 → (b : ℕ) → b ≡ digitAt s (at + 1) → b < 10 → (a ≡ 0 → ⊥) → 10 ≤ digitAt s (at + 2) → P (a * 10 + b) (at + 2)
+
+  abbrev Three : Type 0
+  Three = (a : ℕ) → a ≡ digitAt s at → a < 10 → (b : ℕ) → b ≡ digitAt s (at + 1) → b < 10 → (a ≡ 0 → ⊥) → (c : ℕ) → c ≡ digitAt s (at + 2) → c < 10 → 10 ≤ digitAt s (at + 3) → P (a * 100 + b * 10 + c) (at + 3)
+
+  module _ (v next : ℕ) (e : numberAt s at ≡ Value v next) (one : One) (two : Two) (three : Three) where
+    never : Missing ≡ numberAt s at → P v next
+    never m = let z : _≡_ {A = ℕ} 0 1 = cc in absurd (omega arith)
+
+    same : {w to : ℕ} → Value w to ≡ numberAt s at → P w to → P v next
+    same {w} {to} m h =
+        let ev : w ≡ v = cc in
+        let en : to ≡ next = cc in
+        subst₂ P ev en h
+
+    pub by-digits : P v next
+    by-digits = go (decLt a 10) (decLt b 10) (ℕ-discrete a 0) (decLt c 10) (decLt d 10)
+      where
+        a : ℕ
+        a = digitAt s at
+
+        b : ℕ
+        b = digitAt s (at + 1)
+
+        c : ℕ
+        c = digitAt s (at + 2)
+
+        d : ℕ
+        d = digitAt s (at + 3)
+
+        go : Dec (a < 10) → Dec (b < 10) → Dec (a ≡ 0) → Dec (c < 10) → Dec (d < 10) → P v next
+        go (no la) gb gz gc gd = never (no-digit s at a refl (omega arith))
+        go (yes la) (no lb) gz gc gd = same (one-digit s at a refl la b refl (omega arith)) (one a refl la (omega arith))
+        go (yes la) (yes lb) (yes z) gc gd = never (zero-first s at a refl la b refl lb z)
+        go (yes la) (yes lb) (no z) (no lc) gd =
+            same (two-digits s at a refl la b refl lb z c refl (omega arith)) (two a refl la b refl lb z (omega arith))
+        go (yes la) (yes lb) (no z) (yes lc) (no ld) =
+            same (three-digits s at a refl la b refl lb z c refl lc d refl (omega arith)) (three a refl la b refl lb z c refl lc (omega arith))
+        go (yes la) (yes lb) (no z) (yes lc) (yes ld) = never (four-digits s at a refl la b refl lb z c refl lc d refl ld)
+
+-- a number that is read has a digit, and ends in the text
+pub number-ahead : (s : List ℕ) (at v next : ℕ) → numberAt s at ≡ Value v next → (at < next) × (next ≤ length s)
+number-ahead s at v next e =
+    by-digits s at (λ _ to. (at < to) × (to ≤ length s)) v next e
+    (λ a ea la h. (omega arith, omega (arith, digit-inside s at ea la)))
+    (λ a ea la b eb lb n h. (omega arith, omega (arith, digit-inside s (at + 1) eb lb)))
+    (λ a ea la b eb lb n c ec lc h. (omega arith, omega (arith, digit-inside s (at + 2) ec lc)))

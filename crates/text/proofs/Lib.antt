@@ -1,11 +1,5 @@
 pub mod DigitLaws
 pub mod Keys
-pub mod Holding
-pub mod Decimals
 pub mod Listing
 pub mod Closing
-pub mod Writing
-pub mod Back
-pub mod Only
-pub mod Laws
 pub mod Counted

@@ -15,8 +15,7 @@ use Rattle.text.specs.declared.Number.the-variants.{Value, Missing}
 use Rattle.text.specs.declared.Numbers.{Numbers}
 use Rattle.counting.specs.Choice.{pick}
 use Rattle.text.specs.Reading.{numberAt, Listed, listed, unlisted, before, afterNumber, numbersFrom, numbersAt, numbersOf}
-use Rattle.text.proofs.DigitLaws.{low-digit, no-digit}
-use Rattle.text.proofs.Decimals.{number-stands}
+use Rattle.text.proofs.DigitLaws.{low-digit, no-digit, number-ahead}
 
 module _ (s : List ℕ) where
   -- past the end there is no number
@@ -28,8 +27,7 @@ module _ (s : List ℕ) where
   unfolding afterNumber
   later at Missing e f g w = refl
   later at (Value v next) e f g w =
-      let h = number-stands s at v next e in
-      ap (λ (l : Listed). pick (eqb (getD s next 0) 44) (λ _. before v l) (λ _. listed (v ∷ []) next)) (w (next + 1) (omega (arith, h .some)))
+      ap (λ (l : Listed). pick (eqb (getD s next 0) 44) (λ _. before v l) (λ _. listed (v ∷ []) next)) (w (next + 1) (omega (arith, number-ahead s at v next e .0)))
 
   -- the bound on how many are read does not matter
   enough : (n m at : ℕ) → length s ≤ at + n → length s ≤ at + m → numbersFrom n s at ≡ numbersFrom m s at

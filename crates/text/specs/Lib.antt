@@ -2,4 +2,3 @@ pub mod Bytes
 pub mod Written
 pub mod Reading
 pub mod Shapes
-pub mod Layout

@@ -1,11 +1,7 @@
-// Numbers, keys and line ends of the text layouts, read from bytes and written to bytes.
+// Numbers, keys and line ends of the text layouts, read from bytes.
 ghost use mathlib.Core.Path.{_≡_};
 ghost use mathlib.Core.Bool.{cond};
-ghost use mathlib.Core.List.{[], _∷_};
-ghost use Prim.Native.Nat.{_+_, _*_, _^_, _<_, _≤_};
-ghost use lib.ListN.{length, getD, take, drop, set};
-ghost use lib.Seq.{sets};
-ghost use Rattle.text.specs.Written.{decimal, lineEnd, line};
+ghost use lib.ListN.{getD, drop, set};
 ghost use Rattle.text.specs.Reading.{digitAt, numberAt, startsWith, lineEndAt, unlisted, numbersAt, lineAt, lastLineAt, numbersOf};
 
 // A number that stands at a place of the text, with the place after it, or none.
@@ -200,102 +196,4 @@ pub fn last_line(s: &[u8], at: usize, key: &[u8]) -> Numbers
     ensures { λ r. ⌜ r ≡ numbersOf (lastLineAt (now (key .entry)) (now (s .entry)) at) ⌝ }
 {
     shape(s, at, key, true)
-}
-
-// How many digits a number has.
-pub fn digits(v: u16) -> usize
-    ensures { λ r. ⌜ r ≡ length (decimal v) ⌝ }
-{
-    if v < 10 {
-        return 1;
-    }
-    if v < 100 {
-        return 2;
-    }
-    3
-}
-
-// Puts bytes at a place of the buffer, and returns the place after them.
-pub fn put_bytes(out: &mut [u8], at: usize, bytes: &[u8]) -> usize
-    requires { ⌜ at + length (now bytes) ≤ length (now out) ⌝ }
-    ensures { λ r. ⌜ (r ≡ at + length (now (bytes .entry))) × (now (out .exit) ≡ sets (now (out .entry)) at (now (bytes .entry))) ⌝ }
-{
-    let mut i = at;
-    let mut j = 0;
-    while j < bytes.len() {
-        out[i] = bytes[j];
-        i += 1;
-        j += 1;
-    }
-    i
-}
-
-// Puts a number's digits.
-pub fn put_number(out: &mut [u8], at: usize, v: u16) -> usize
-    requires { ⌜ at + length (decimal v) ≤ length (now out) ⌝ }
-    ensures { λ r. ⌜ (r ≡ at + length (decimal v)) × (now (out .exit) ≡ sets (now (out .entry)) at (decimal v)) ⌝ }
-{
-    if v < 10 {
-        out[at] = (v % 10) as u8 + 48;
-        return at + 1;
-    }
-    if v < 100 {
-        out[at] = (v / 10 % 10) as u8 + 48;
-        out[at + 1] = (v % 10) as u8 + 48;
-        return at + 2;
-    }
-    out[at] = (v / 100 % 10) as u8 + 48;
-    out[at + 1] = (v / 10 % 10) as u8 + 48;
-    out[at + 2] = (v % 10) as u8 + 48;
-    at + 3
-}
-
-// Puts a comma and a number.
-pub fn put_next(out: &mut [u8], at: usize, v: u16) -> usize
-    requires { ⌜ at + length (44 ∷ decimal v) ≤ length (now out) ⌝ }
-    ensures { λ r. ⌜ (r ≡ at + length (44 ∷ decimal v)) × (now (out .exit) ≡ sets (now (out .entry)) at (44 ∷ decimal v)) ⌝ }
-{
-    out[at] = 44;
-    put_number(out, at + 1, v)
-}
-
-// Puts a line's end.
-pub fn put_line_end(out: &mut [u8], at: usize) -> usize
-    requires { ⌜ at + length lineEnd ≤ length (now out) ⌝ }
-    ensures { λ r. ⌜ (r ≡ at + length lineEnd) × (now (out .exit) ≡ sets (now (out .entry)) at lineEnd) ⌝ }
-{
-    out[at] = 10;
-    at + 1
-}
-
-// How many bytes a line has: a key, the first `count` values with a comma between, the line's end.
-pub fn line_length(key: &[u8], values: &[u16], count: usize) -> usize
-    requires { ⌜ (0 < count) × (count ≤ length (now values)) ⌝ }
-    requires { ⌜ length (now key) + 4 * count < 2 ^ 64 ⌝ }
-    ensures { λ r. ⌜ r ≡ length (line (now (key .entry)) (take count (now (values .entry)))) ⌝ }
-{
-    let mut sum = key.len();
-    let mut i = 0;
-    while i < count {
-        sum += digits(values[i]) + 1;
-        i += 1;
-    }
-    sum
-}
-
-// Puts a whole line: a key, the first `count` values with a comma between, the line's end.
-pub fn put_line(out: &mut [u8], at: usize, key: &[u8], values: &[u16], count: usize) -> usize
-    requires { ⌜ (0 < count) × (count ≤ length (now values)) ⌝ }
-    requires { ⌜ at + length (line (now key) (take count (now values))) ≤ length (now out) ⌝ }
-    ensures { λ r. ⌜ (r ≡ at + length (line (now (key .entry)) (take count (now (values .entry))))) × (now (out .exit) ≡ sets (now (out .entry)) at (line (now (key .entry)) (take count (now (values .entry))))) ⌝ }
-{
-    let first = put_bytes(out, at, key);
-    let mut i = put_number(out, first, values[0]);
-    let mut k = 1;
-    while k < count {
-        let e = put_next(out, i, values[k]);
-        i = e;
-        k += 1;
-    }
-    put_line_end(out, i)
 }

@@ -12,7 +12,7 @@ use Rattle.digraph.proofs.visit.Reads as visit
 use Rattle.digraph.proofs.visit.Kinds as visit-kinds
 use Rattle.digraph.proofs.+visit.Lts-visit as visit-lts
 use Rattle.digraph.proofs.higher.Reads as higher-reads
-use Rattle.digraph.proofs.wide.Reads as wide-reads
+use Rattle.counting.proofs.wide.Reads as wide-reads
 use Rattle.digraph.proofs.+visit.{statement}
 use Rattle.digraph.proofs.+visit.Tie.{close}
 
@@ -50,7 +50,7 @@ visit-wide-requires : (t : ℕ) → visit-lts.Need-wide-requires (callees t) (vi
 visit-wide-requires t c κs = search needs
 
 visit-loop-holds : (t : ℕ) → visit-lts.Need-loop-holds (callees t) (visit-at t) visit.Post visit-Inv-loop visit-μ-loop
-visit-loop-holds t c = rw (c .wide .ensures) (begin (c .before .before .pre .1 .0) (c .before .before .pre .1 .1))
+visit-loop-holds t c = rw (c .wide .ensures .0) (begin (c .before .before .pre .1 .0) (c .before .before .pre .1 .1))
 
 visit-mul-wide-2 : (t : ℕ) → visit-lts.Need-mul-wide-2 (callees t) (visit-at t) visit.Post visit-Inv-loop visit-μ-loop
 visit-mul-wide-2 t c = search needs
@@ -63,7 +63,7 @@ visit-wide-requires-2 t c κs = search needs
 
 -- the edge's start is a node
 start-in : (t : ℕ) (c : visit-lts.After-wide2 (callees t) (visit-at t) visit.Post visit-Inv-loop visit-μ-loop) → c .wide2 .result < 256
-start-in t c = omega (arith, c .wide2 .ensures, c .before .before .before .before .before .before .pre .1 .0 .from-in (c .before .before .before .loop .k) (c .before .before .loop-test .taken))
+start-in t c = omega (arith, c .wide2 .ensures .0, c .before .before .before .before .before .before .pre .1 .0 .from-in (c .before .before .before .loop .k) (c .before .before .loop-test .taken))
 
 visit-mul-if1 : (t : ℕ) → visit-lts.Need-mul-if1 (callees t) (visit-at t) visit.Post visit-Inv-loop visit-μ-loop
 visit-mul-if1 t c = omega (arith, start-in t c)
@@ -79,7 +79,7 @@ visit-visit-requires t c κs =
     let L = s .pre .1 .0 in
     let R = s .pre .1 .1 in (
       omega (arith, fewer L R (at-loop .loop .inv), s .pre .0),
-      (L, ready L R (at-loop .loop .inv) (at-wide2 .before .before .loop-test .taken) _ (at-wide2 .wide2 .ensures) (c .before .if1 .taken)),
+      (L, ready L R (at-loop .loop .inv) (at-wide2 .before .before .loop-test .taken) _ (at-wide2 .wide2 .ensures .0) (c .before .if1 .taken)),
     )
 
 visit-returns : (t : ℕ) → visit-lts.Need-returns (callees t) (visit-at t) visit.Post visit-Inv-loop visit-μ-loop
@@ -115,7 +115,7 @@ visit-returns-2 t c =
     let at-wide2 = at-join .before .before in
     let at-loop = at-wide2 .before .before .before in
     let s = at-loop .before .before .before in
-    stopped (closes (s .pre .1 .0) (s .pre .1 .1) (turned t at-join .0) (at-wide2 .before .before .loop-test .taken) _ (at-wide2 .wide2 .ensures) (c .if3 .taken))
+    stopped (closes (s .pre .1 .0) (s .pre .1 .1) (turned t at-join .0) (at-wide2 .before .before .loop-test .taken) _ (at-wide2 .wide2 .ensures .0) (c .if3 .taken))
 
 visit-higher-requires : (t : ℕ) → visit-lts.Need-higher-requires (callees t) (visit-at t) visit.Post visit-Inv-loop visit-μ-loop
 visit-higher-requires t c κs =
@@ -140,7 +140,7 @@ visit-loop-less t c =
     let at-wide2 = c .before .before .before .before .before .before .before in
     let at-loop = at-wide2 .before .before .before in
     let s = at-loop .before .before .before in
-    omega (arith, c .wide3 .ensures, s .pre .1 .0 .rising (at-loop .loop .k) (at-wide2 .before .before .loop-test .taken), at-wide2 .before .before .loop-test .taken)
+    omega (arith, c .wide3 .ensures .0, s .pre .1 .0 .rising (at-loop .loop .k) (at-wide2 .before .before .loop-test .taken), at-wide2 .before .before .loop-test .taken)
 
 visit-loop-again : (t : ℕ) → visit-lts.Need-loop-again (callees t) (visit-at t) visit.Post visit-Inv-loop visit-μ-loop
 visit-loop-again t c =
@@ -150,8 +150,8 @@ visit-loop-again t c =
     let s = at-loop .before .before .before in
     let h = turned t at-join .1 in
     let f = c .before .before .before .if3 .left in
-    next (s .pre .1 .0) (s .pre .1 .1) (turned t at-join .0) (at-wide2 .before .before .loop-test .taken) _ (at-wide2 .wide2 .ensures) (omega arith)
-    _ (c .before .before .higher .ensures) _ (c .wide3 .ensures)
+    next (s .pre .1 .0) (s .pre .1 .1) (turned t at-join .0) (at-wide2 .before .before .loop-test .taken) _ (at-wide2 .wide2 .ensures .0) (omega arith)
+    _ (c .before .before .higher .ensures) _ (c .wide3 .ensures .0)
 
 visit-mul-depth-2 : (t : ℕ) → visit-lts.Need-mul-depth-2 (callees t) (visit-at t) visit.Post visit-Inv-loop visit-μ-loop
 visit-mul-depth-2 t c = search needs

@@ -33,7 +33,7 @@ wide-requires c κs = search needs
 end-in : (c : tie.After-wide Inv-loop μ-loop) → c .wide .result < 256
 end-in c =
     let at-loop = c .before .before .before in
-    omega (arith, c .wide .ensures, at-loop .before .pre .1 (at-loop .loop .k - 1) (omega (arith, at-loop .loop .inv .0, c .before .before .loop-test .taken)))
+    omega (arith, c .wide .ensures .0, at-loop .before .pre .1 (at-loop .loop .k - 1) (omega (arith, at-loop .loop .inv .0, c .before .before .loop-test .taken)))
 
 mul-after : tie.Need-mul-after Inv-loop μ-loop
 mul-after c = omega (arith, end-in c)
@@ -64,7 +64,7 @@ loop-again c =
     let at-loop = c .before .before .before in
     let s = at-loop .before in
     let z : at-loop .loop .k ≡ suc (at-loop .loop .k - 1) = omega (arith, c .before .before .loop-test .taken) in
-    (search needs, chained-more (rw z at (at-loop .loop .inv .1)) (omega (arith, at-loop .loop .inv .0)) (s .pre .0) _ (c .wide .ensures) (end-in c) (s .pre .1))
+    (search needs, chained-more (rw z at (at-loop .loop .inv .1)) (omega (arith, at-loop .loop .inv .0)) (s .pre .0) _ (c .wide .ensures .0) (end-in c) (s .pre .1))
 
 returns : tie.Need-returns Inv-loop μ-loop
 returns c = let e : c .before .loop .k ≡ 0 = omega arith in rw e at (c .before .loop .inv .1)

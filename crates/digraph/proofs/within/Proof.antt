@@ -33,7 +33,7 @@ wide-requires : tie.Need-wide-requires Inv-loop μ-loop
 wide-requires c κs = search needs
 
 returns-3 : tie.Need-returns-3 Inv-loop μ-loop
-returns-3 c = sym (within-false _ _ _ _ (λ W. omega (arith, W .from-in (c .before .before .before .before .loop .k) (c .before .before .before .loop-test .taken), c .before .wide .ensures, c .if3 .taken)))
+returns-3 c = sym (within-false _ _ _ _ (λ W. omega (arith, W .from-in (c .before .before .before .before .loop .k) (c .before .before .before .loop-test .taken), c .before .wide .ensures .0, c .if3 .taken)))
 
 mul-wide-2 : tie.Need-mul-wide-2 Inv-loop μ-loop
 mul-wide-2 c = search needs
@@ -47,7 +47,7 @@ wide-requires-2 c κs = search needs
 returns-4 : tie.Need-returns-4 Inv-loop μ-loop
 returns-4 c =
     let at-loop = c .before .before .before .before .before .before .before in
-    sym (within-false _ _ _ _ (λ W. omega (arith, W .to-in (at-loop .loop .k) (c .before .before .before .before .before .before .loop-test .taken), c .before .wide2 .ensures, c .if4 .taken)))
+    sym (within-false _ _ _ _ (λ W. omega (arith, W .to-in (at-loop .loop .k) (c .before .before .before .before .before .before .loop-test .taken), c .before .wide2 .ensures .0, c .if4 .taken)))
 
 add-k : tie.Need-add-k Inv-loop μ-loop
 add-k c = search needs
@@ -61,7 +61,7 @@ loop-again c =
     let at-else = c .before .before .before in (
       omega (arith, at-else .before .before .before .loop-test .taken),
       below-more _ _ (at-loop .loop .inv .1)
-          (omega (arith, at-else .before .wide .ensures, at-else .if3 .left), omega (arith, c .before .wide2 .ensures, c .if4 .left)),
+          (omega (arith, at-else .before .wide .ensures .0, at-else .if3 .left), omega (arith, c .before .wide2 .ensures .0, c .if4 .left)),
     )
 
 returns-5 : tie.Need-returns-5 Inv-loop μ-loop

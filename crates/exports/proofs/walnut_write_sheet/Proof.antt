@@ -1,7 +1,7 @@
 use mathlib.Core.Path.{ap, _∙_}
 use borrow.Author.Needs.{needs}
 use Rattle.sheet.specs.Answers.{refusalNumber}
-use Rattle.format.specs.declared.Written.{Written}
+use Rattle.write.specs.declared.Written.{Written}
 use Rattle.exports.proofs.walnut_write_sheet.Statement.{statement}
 use Rattle.exports.proofs.walnut_write_sheet.Tie as tie
 

@@ -1,4 +1,4 @@
-use Prim.Native.Nat.{_≤_, _-_}
+use Prim.Native.Nat.{_≤_, _<_, _-_}
 use mathlib.Core.Path.{_≡_, sym, _∙_}
 use native.Mathlib.Omega.{arith}
 use borrow.Author.Needs.{needs}
@@ -6,8 +6,7 @@ use lib.ListN.{length}
 use Rattle.text.specs.Reading.{numberAt, numbersAt, numbersOf}
 use Rattle.text.specs.declared.Number.the-variants.{Value}
 use Rattle.text.proofs.Listing.{resume, resume-none, turn-none, turn-last, turn-more}
-use Rattle.text.proofs.Decimals.{Stands, number-stands}
-use Rattle.text.proofs.DigitLaws.{inside}
+use Rattle.text.proofs.DigitLaws.{inside, number-ahead}
 use Rattle.text.proofs.numbers_at.Statement.{statement}
 use Rattle.text.proofs.numbers_at.Tie as tie
 
@@ -21,8 +20,8 @@ abbrev μ-loop : tie.MeasureT-loop
 value : (c : tie.After-read Inv-loop μ-loop) → numberAt (c .before .before .before .before .before .args .s .now) (c .before .before .before .loop .i) ≡ Value (c .read .given .0 .0) (c .read .given .0 .1 .0)
 value c = sym (c .before .before .number-at .ensures) ∙ c .read .given .1
 
-stands : (c : tie.After-read Inv-loop μ-loop) → Stands (c .before .before .before .before .before .args .s .now) (c .before .before .before .loop .i) (c .read .given .0 .0) (c .read .given .0 .1 .0)
-stands c = number-stands _ _ _ _ (value c)
+ahead : (c : tie.After-read Inv-loop μ-loop) → (c .before .before .before .loop .i < c .read .given .0 .1 .0) × (c .read .given .0 .1 .0 ≤ length (c .before .before .before .before .before .args .s .now))
+ahead c = number-ahead (c .before .before .before .before .before .args .s .now) _ (c .read .given .0 .0) _ (value c)
 
 loop-holds : tie.Need-loop-holds Inv-loop μ-loop
 loop-holds c = (search needs, resume-none _)
@@ -48,7 +47,7 @@ keep-requires : tie.Need-keep-requires Inv-loop μ-loop
 keep-requires c κs = search needs
 
 add-count : tie.Need-add-count Inv-loop μ-loop
-add-count c = omega (arith, stands (c .before .before) .holds .room, stands (c .before .before) .place, stands (c .before .before) .some)
+add-count c = omega (arith, ahead (c .before .before) .0, ahead (c .before .before) .1)
 
 byte-requires : tie.Need-byte-requires Inv-loop μ-loop
 byte-requires c κs = search needs
@@ -64,15 +63,15 @@ add-i c = let read = c .before .before .before .before in
     omega (arith, inside (read .before .before .before .before .before .args .s .now) (read .read .given .0 .1 .0) (omega (arith, c .before .byte .ensures, c .if1 .left)))
 
 loop-less : tie.Need-loop-less Inv-loop μ-loop
-loop-less c = let h = stands (c .before .before .before .before) in
-    omega (arith, h .holds .room, h .place, h .some)
+loop-less c = let h = ahead (c .before .before .before .before) in
+    omega (arith, h .0, h .1)
 
 loop-again : tie.Need-loop-again Inv-loop μ-loop
 loop-again c = let kept = c .before .before in
     let read = kept .before .before in
     let loop = read .before .before .before in
-    let h = stands read in
-    (omega (arith, h .some, loop .loop .inv .0), turn-more (loop .before .before .args .s .now) _ _ _ _ (loop .loop .inv .1) _ _ (value read) _ (kept .keep .ensures) _ (c .before .byte .ensures) (c .if1 .left))
+    let h = ahead read in
+    (omega (arith, h .0, loop .loop .inv .0), turn-more (loop .before .before .args .s .now) _ _ _ _ (loop .loop .inv .1) _ _ (value read) _ (kept .keep .ensures) _ (c .before .byte .ensures) (c .if1 .left))
 
 pub numbers-at-spec : {M : Type 1} → statement M
 numbers-at-spec =

@@ -21,10 +21,10 @@ within-requires : tie.Need-within-requires
 within-requires c κs = search needs
 
 returns-2 : tie.Need-returns-2
-returns-2 c = let p1 = c .before .before .before .before in count-outside _ _ _ (p1 .before .before .line .ensures) (p1 .if1 .left) _ (c .before .before .wide .ensures) (sym (c .before .within .ensures) ∙ not-true _ (c .if2 .taken))
+returns-2 c = let p1 = c .before .before .before .before in count-outside _ _ _ (p1 .before .before .line .ensures) (p1 .if1 .left) _ (c .before .before .wide .ensures .0) (sym (c .before .within .ensures) ∙ not-true _ (c .if2 .taken))
 
 returns-3 : tie.Need-returns-3
-returns-3 c = let p1 = c .before .before .before .before in count-inside _ _ _ (p1 .before .before .line .ensures) (p1 .if1 .left) _ (c .before .before .wide .ensures) (sym (c .before .within .ensures) ∙ not-false _ (c .if2 .left))
+returns-3 c = let p1 = c .before .before .before .before in count-inside _ _ _ (p1 .before .before .line .ensures) (p1 .if1 .left) _ (c .before .before .wide .ensures .0) (sym (c .before .within .ensures) ∙ not-false _ (c .if2 .left))
 
 pub count-line-spec : {M : Type 1} → statement M
 count-line-spec =

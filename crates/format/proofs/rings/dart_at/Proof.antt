@@ -23,10 +23,10 @@ add-result : tie.Need-add-result
 add-result c = search needs
 
 returns : tie.Need-returns
-returns c = let a = c .before .before .before .args in dart-tail 0 (a .tails .now) (a .tails .now) (a .v) (a .w) (sym (c .before .wide .ensures) ∙ c .if1 .taken)
+returns c = let a = c .before .before .before .args in dart-tail 0 (a .tails .now) (a .tails .now) (a .v) (a .w) (sym (c .before .wide .ensures .0) ∙ c .if1 .taken)
 
 returns-2 : tie.Need-returns-2
-returns-2 c = let a = c .before .before .before .args in dart-head 0 (a .tails .now) (a .tails .now) (a .v) (a .w) (λ e. c .if1 .left (c .before .wide .ensures ∙ e))
+returns-2 c = let a = c .before .before .before .args in dart-head 0 (a .tails .now) (a .tails .now) (a .v) (a .w) (λ e. c .if1 .left (c .before .wide .ensures .0 ∙ e))
 
 pub dart-at-spec : {M : Type 1} → statement M
 dart-at-spec =

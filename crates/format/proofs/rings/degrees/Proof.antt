@@ -19,10 +19,10 @@ joint : (c : tie.In-loop Inv-loop μ-loop) → Joint 128 (c .before .before .arg
 joint c = c .before .before .pre .1 _ (c .loop-test .taken)
 
 tail-in : (c : tie.After-wide Inv-loop μ-loop) → c .wide .result < 128
-tail-in c = omega (arith, c .wide .ensures, joint (c .before .before) .tail-in)
+tail-in c = omega (arith, c .wide .ensures .0, joint (c .before .before) .tail-in)
 
 head-in : (c : tie.After-wide2 Inv-loop μ-loop) → c .wide2 .result < 128
-head-in c = omega (arith, c .wide2 .ensures, joint (c .before .before .before .before) .head-in)
+head-in c = omega (arith, c .wide2 .ensures .0, joint (c .before .before .before .before) .head-in)
 
 loop-holds : tie.Need-loop-holds Inv-loop μ-loop
 loop-holds c = (search needs, search needs, counted-none (c .args .tails .now) (c .args .heads .now) (replicate 128 0) (λ v h. getD-replicate 128 v 0 0 h))
@@ -71,7 +71,7 @@ add-degree-2 c =
     let start = c .before .before in
     let loop = start .before .before .before in
     let a = loop .before .args in
-    omega (arith, head-kept (a .tails .now) (a .heads .now) (loop .loop .k) _ _ (start .wide .ensures) (c .wide2 .ensures) (joint (start .before .before)) (loop .loop .degree) (loop .loop .inv .1) (loop .loop .inv .2) (getD (loop .loop .degree) (start .wide .result) 0 + 1), counted-most (a .tails .now) (a .heads .now) (loop .loop .degree) (loop .loop .k) (loop .loop .inv .2) (c .wide2 .result) (head-in c))
+    omega (arith, head-kept (a .tails .now) (a .heads .now) (loop .loop .k) _ _ (start .wide .ensures .0) (c .wide2 .ensures .0) (joint (start .before .before)) (loop .loop .degree) (loop .loop .inv .1) (loop .loop .inv .2) (getD (loop .loop .degree) (start .wide .result) 0 + 1), counted-most (a .tails .now) (a .heads .now) (loop .loop .degree) (loop .loop .k) (loop .loop .inv .2) (c .wide2 .result) (head-in c))
 
 array-write-degree-2 : tie.Need-array-write-degree-2 Inv-loop μ-loop
 array-write-degree-2 c = omega (arith, head-in c)
@@ -87,7 +87,7 @@ loop-again c =
     let start = c .before .before in
     let loop = start .before .before .before in
     let a = loop .before .args in
-    (search needs, simp length-set (loop .loop .inv .1), counted-more (a .tails .now) (a .heads .now) (loop .loop .k) _ _ (start .wide .ensures) (c .wide2 .ensures) (joint (start .before .before)) (loop .loop .degree) (loop .loop .inv .1) (loop .loop .inv .2))
+    (search needs, simp length-set (loop .loop .inv .1), counted-more (a .tails .now) (a .heads .now) (loop .loop .k) _ _ (start .wide .ensures .0) (c .wide2 .ensures .0) (joint (start .before .before)) (loop .loop .degree) (loop .loop .inv .1) (loop .loop .inv .2))
 
 returns : tie.Need-returns Inv-loop μ-loop
 returns c v h = let z : c .before .loop .k ≡ c .before .before .args .m = omega arith in rw z at (c .before .loop .inv .2 v h)

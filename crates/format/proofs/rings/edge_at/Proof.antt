@@ -15,7 +15,7 @@ use Rattle.format.proofs.rings.edge_at.Tie as tie
 value : (c : tie.After-wide) → numberAt (c .before .before .before .before .before .before .args .text .now) (c .before .before .before .before .before .before .args .at) ≡ Value (c .wide .result) (c .before .before .read .given .0 .1 .0)
 value c =
     let read = c .before .before in
-    sym (read .before .before .number-at .ensures) ∙ read .read .given .1 ∙ ap (λ (x : ℕ). Value x (read .read .given .0 .1 .0)) (sym (c .wide .ensures))
+    sym (read .before .before .number-at .ensures) ∙ read .read .given .1 ∙ ap (λ (x : ℕ). Value x (read .read .given .0 .1 .0)) (sym (c .wide .ensures .0))
 
 -- it fits
 fit : (c : tie.Else1) → let a = c .before .before .before .before .before .before .before .before .before .args in fitsOf (a .m) (a .tails .now) (a .heads .now) (a .v) (a .seen .now) (c .before .before .before .wide .result) ≡ true

@@ -24,7 +24,7 @@ returns-2 : tie.Need-returns-2
 returns-2 c =
     let p1 = c .before .before .before in
     let a = p1 .before .args in
-    fits-seen (a .m) (a .tails .now) (a .heads .now) (a .v) (a .seen .now) (a .w) (p1 .if1 .left) (sym (c .before .wide .ensures) ∙ c .if2 .taken)
+    fits-seen (a .m) (a .tails .now) (a .heads .now) (a .v) (a .seen .now) (a .w) (p1 .if1 .left) (sym (c .before .wide .ensures .0) ∙ c .if2 .taken)
 
 mul-wide-2 : tie.Need-mul-wide-2
 mul-wide-2 c = search needs
@@ -49,8 +49,8 @@ returns-3 c =
     let p2 = c .before .before .before in
     let p1 = p2 .before .before .before in
     let a = p1 .before .args in
-    let e = c .before .wide2 .ensures in
-    ap (λ x. eqb x (a .v)) e ∙ fits-tail (a .m) (a .tails .now) (a .heads .now) (a .v) (a .seen .now) (a .w) (p1 .if1 .left) (λ q. p2 .if2 .left (p2 .before .wide .ensures ∙ q)) (sym e ∙ c .if3 .taken)
+    let e = c .before .wide2 .ensures .0 in
+    ap (λ x. eqb x (a .v)) e ∙ fits-tail (a .m) (a .tails .now) (a .heads .now) (a .v) (a .seen .now) (a .w) (p1 .if1 .left) (λ q. p2 .if2 .left (p2 .before .wide .ensures .0 ∙ q)) (sym e ∙ c .if3 .taken)
 
 returns-4 : tie.Need-returns-4
 returns-4 c =
@@ -58,7 +58,7 @@ returns-4 c =
     let p2 = p3 .before .before .before in
     let p1 = p2 .before .before .before in
     let a = p1 .before .args in
-    ap (λ x. eqb x (a .v)) (c .wide3 .ensures) ∙ fits-head (a .m) (a .tails .now) (a .heads .now) (a .v) (a .seen .now) (a .w) (p1 .if1 .left) (λ q. p2 .if2 .left (p2 .before .wide .ensures ∙ q)) (λ q. p3 .if3 .left (p3 .before .wide2 .ensures ∙ q))
+    ap (λ x. eqb x (a .v)) (c .wide3 .ensures .0) ∙ fits-head (a .m) (a .tails .now) (a .heads .now) (a .v) (a .seen .now) (a .w) (p1 .if1 .left) (λ q. p2 .if2 .left (p2 .before .wide .ensures .0 ∙ q)) (λ q. p3 .if3 .left (p3 .before .wide2 .ensures .0 ∙ q))
 
 pub fits-spec : {M : Type 1} → statement M
 fits-spec =

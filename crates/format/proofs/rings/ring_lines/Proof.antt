@@ -27,7 +27,7 @@ line-of c = line-some aroundKey _ _ _ (c .before .line .ensures) (c .if1 .left)
 
 -- how many edges the vertex has
 degree-is : (c : tie.After-wide Inv-loop μ-loop) → let loop = c .before .before .before .before .before .before in let a = loop .before .before .before .args in c .wide .result ≡ count (touchesAt (a .tails .now) (a .heads .now) (loop .loop .v)) (a .m)
-degree-is c = let loop = c .before .before .before .before .before .before in c .wide .ensures ∙ loop .before .degrees .ensures (loop .loop .v) (omega arith)
+degree-is c = let loop = c .before .before .before .before .before .before in c .wide .ensures .0 ∙ loop .before .degrees .ensures (loop .loop .v) (omega arith)
 
 degrees-requires : tie.Need-degrees-requires Inv-loop μ-loop
 degrees-requires c κs = (search needs, λ k l. joint-wider _ 128 _ _ k (search needs) (c .before .pre .2 k l))

@@ -1,0 +1,5 @@
+pub mod Holding
+pub mod Decimals
+pub mod Back
+pub mod Only
+pub mod Laws

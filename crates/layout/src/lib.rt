@@ -1,0 +1,1 @@
+// What reading and writing owe each other: theory, with no functions.

@@ -1,0 +1,4 @@
+pub mod Firsts
+pub mod Circuits
+pub mod Measure
+pub mod Outcomes

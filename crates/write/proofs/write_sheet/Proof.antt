@@ -1,0 +1,68 @@
+use Prim.Native.Nat.{ℕ}
+use mathlib.Core.Path.{_≡_, sym, _∙_}
+use mathlib.Core.Bool.{true}
+use mathlib.Core.List.{List, map}
+use native.Mathlib.Omega.{arith}
+use lib.ListN.{length, length-map}
+use borrow.Author.Tests.{not-true, not-false}
+use borrow.Author.Needs.{needs}
+use Rattle.sheet.specs.Sound.{Sound}
+use Rattle.sheet.specs.Check.{sound}
+use Rattle.sheet.specs.Darts.{Sized}
+use Rattle.soundness.proofs.Law.{sound-law}
+use Rattle.write.proofs.Outcomes.{not-sound, too-short, text-put}
+use Rattle.write.proofs.write_sheet.Statement.{statement}
+use Rattle.write.proofs.write_sheet.Tie as tie
+
+unmapped : {n : ℕ} (l : List ℕ) → length (map (λ v. v) l) ≡ n → length l ≡ n
+unmapped l e = sym (length-map l (λ v. v)) ∙ e
+
+-- the arrays have the lengths of their types
+sized : (c : tie.Start) → Sized (c .args .s)
+sized c = let s = c .args .s in
+    let arrays = c .good .0 .1 .1 .1 .1 in
+    record { tails = unmapped (s .tails) (arrays .0 .1 .0 .1); heads = unmapped (s .heads) (arrays .1 .0 .1 .0 .1); nexts = unmapped (s .nexts) (arrays .1 .1 .0 .1 .0 .1) }
+
+is-so : (c : tie.Else1) → sound (c .before .before .before .args .s) ≡ true
+is-so c = sym (c .before .is-sound .ensures) ∙ not-false _ (c .if1 .left)
+
+has-sound : (c : tie.Else1) → Sound (c .before .before .before .args .s)
+has-sound c = sound-law _ (sized (c .before .before .before)) .0 (is-so c)
+
+is-sound-requires : tie.Need-is-sound-requires
+is-sound-requires c κs = search needs
+
+returns : tie.Need-returns
+returns c = not-sound _ _ _ (sym (c .before .is-sound .ensures) ∙ not-true _ (c .if1 .taken))
+
+first-darts-requires : tie.Need-first-darts-requires
+first-darts-requires c κs = has-sound c
+
+text-length-requires : tie.Need-text-length-requires
+text-length-requires c κs = (has-sound (c .before .before), c .before .first-darts .ensures)
+
+returns-2 : tie.Need-returns-2
+returns-2 c = too-short _ _ _ (is-so (c .before .before .before .before)) (omega (arith, c .before .text-length .ensures, c .if2 .taken))
+
+put-sheet-requires : tie.Need-put-sheet-requires
+put-sheet-requires c κs = (has-sound (c .before .before .before .before .before .before), c .before .before .before .before .before .first-darts .ensures, omega (arith, c .before .before .before .text-length .ensures, c .before .before .if2 .left))
+
+same-length : tie.Need-same-length
+same-length c = search needs
+
+returns-3 : tie.Need-returns-3
+returns-3 c = let put = c .before .before in
+    text-put _ _ _ (is-so (put .before .before .before .before .before .before .before)) (omega (arith, put .before .before .before .before .text-length .ensures, put .before .before .before .if2 .left)) _ (put .put-sheet .ensures .0) _ (put .put-sheet .ensures .1)
+
+pub write-sheet-spec : {M : Type 1} → statement M
+write-sheet-spec =
+    tie.close
+    (tie.spec
+    is-sound-requires
+    returns
+    first-darts-requires
+    text-length-requires
+    returns-2
+    put-sheet-requires
+    same-length
+    returns-3)
