@@ -6,9 +6,9 @@ use lib.ListN.{replicate}
 use Rattle.counting.specs.Below.{listBelow, tabulate}
 use Rattle.counting.specs.Choice.{pick}
 use Rattle.sheet.specs.declared.Sheet.{Sheet}
-use Rattle.sheet.specs.declared.Answer.{Answer}
-use Rattle.sheet.specs.declared.Answer.the-variants.{NotSound}
-use Rattle.sheet.specs.Refusals.{first, _if_, isAccepted}
+use Rattle.answers.specs.declared.Answer.{Answer}
+use Rattle.answers.specs.declared.Answer.the-variants.{NotSound}
+use Rattle.answers.specs.Refusals.{first, _if_, isAccepted}
 use Rattle.sheet.specs.Darts.{tail, head, tailDart, touches}
 use Rattle.sheet.specs.Check.{sound, row, face, column}
 use Rattle.drawing.specs.declared.VertexSegment.{VertexSegment}

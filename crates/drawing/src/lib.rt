@@ -1,5 +1,5 @@
 // The drawing of a sheet.
-use sheet::Answer;
+use answers::Answer;
 
 // A vertex (bar) lies in its row, from its first to its last column.
 pub struct VertexSegment {

@@ -6,9 +6,9 @@ use lib.Dec.{eqb, leb}
 use Rattle.counting.specs.Counts.{count}
 use Rattle.counting.specs.Choice.{pick}
 use Rattle.sheet.specs.declared.Sheet.{Sheet}
-use Rattle.sheet.specs.declared.Answer.{Answer}
-use Rattle.sheet.specs.declared.Answer.the-variants.{NotSound, NotInSheet, Full, RootEdge, CornersApart, ClosesCircle, EdgeNeeded, VertexNeeded, BadLayout}
-use Rattle.sheet.specs.Refusals.{first, _if_, isAccepted}
+use Rattle.answers.specs.declared.Answer.{Answer}
+use Rattle.answers.specs.declared.Answer.the-variants.{NotSound, NotInSheet, Full, RootEdge, CornersApart, ClosesCircle, EdgeNeeded, VertexNeeded, BadLayout}
+use Rattle.answers.specs.Refusals.{first, _if_, isAccepted}
 use Rattle.sheet.specs.Darts.{tail, head, opposite, touches, dartAt}
 use Rattle.sheet.specs.Check.{sound, face}
 use Rattle.edit.specs.declared.Edit.{Edit}

@@ -6,8 +6,8 @@ use lib.Dec.{eqb}
 use Rattle.text.specs.Bytes.{bytes}
 use Rattle.text.specs.Reading.{lineAt, lastLineAt}
 use Rattle.text.specs.Shapes.{withOne, withFour}
-use Rattle.sheet.specs.declared.Answer.{Answer}
-use Rattle.sheet.specs.declared.Answer.the-variants.{Accepted, BadLayout}
+use Rattle.answers.specs.declared.Answer.{Answer}
+use Rattle.answers.specs.declared.Answer.the-variants.{Accepted, BadLayout}
 use Rattle.edit.specs.declared.Edit.{Edit}
 use Rattle.edit.specs.declared.Edit.the-variants.{In, Run, Out, Off, Refused}
 use Rattle.edit.specs.declared.EditRead.{EditRead}

@@ -1,7 +1,7 @@
 // Edits of a sheet, as lines of text and as calls.
 ghost use mathlib.Core.Path.{_≡_};
 ghost use Rattle.edit.specs.Lines.{editOf, lineLength, readEdit};
-use sheet::Answer;
+use answers::Answer;
 use sheet::Sheet;
 
 // An edit: put in (wire), run (bar, wire, bar, wire), take out a wire, take out a bar;

@@ -2,15 +2,14 @@
 ghost use mathlib.Core.Path.{_≡_};
 ghost use Rattle.digraph.specs.Relaxed.{levelsOf};
 ghost use Rattle.orbits.specs.Tables.{traced};
-ghost use Rattle.sheet.specs.Answers.{refusalNumber};
 ghost use Rattle.sheet.specs.Check.{sound};
 ghost use Rattle.format.specs.Load.{load};
 ghost use Rattle.write.specs.Write.{writeSheet, bufferAfterSheet};
 ghost use Rattle.edit.specs.Lines.{readEdit};
 ghost use Rattle.exports.specs.Edits.{kindOf, numbersIn};
-ghost use Rattle.exports.specs.Sheets.{sheetOf, Parts, Filled};
+ghost use Rattle.sheet.specs.Arrays.{sheetOf};
+ghost use Rattle.exports.specs.Sheets.{Parts, Filled};
 use edit::Edit;
-use sheet::Answer;
 use sheet::Sheet;
 
 // The level of each node of a digraph; false where there is a circle.
@@ -64,33 +63,6 @@ pub extern "C" fn walnut_is_sound(
     })
 }
 
-// The number of an answer: 0, or the refusal number.
-fn number(a: Answer) -> u16
-    ensures { λ r. ⌜ r ≡ refusalNumber a ⌝ }
-{
-    match a {
-        Answer::Accepted => 0,
-        Answer::BadLayout => 1,
-        Answer::CountOutOfLimits => 2,
-        Answer::BadEdge => 3,
-        Answer::BadRotation => 4,
-        Answer::BadRoot => 5,
-        Answer::Cyclic => 6,
-        Answer::BadPoles => 7,
-        Answer::NotPlanar => 8,
-        Answer::NotSound => 9,
-        Answer::NotInSheet => 10,
-        Answer::Full => 11,
-        Answer::RootEdge => 12,
-        Answer::CornersApart => 13,
-        Answer::ClosesCircle => 14,
-        Answer::EdgeNeeded => 15,
-        Answer::VertexNeeded => 16,
-        Answer::BufferTooShort => 17,
-        Answer::InputTooLong => 18,
-    }
-}
-
 // Load. The present sheet is lent in parts, and the sheet that load returns takes its place.
 #[no_mangle]
 pub extern "C" fn walnut_load(
@@ -126,7 +98,7 @@ pub extern "C" fn walnut_load(
     *nexts = new_nexts;
     *taken = loaded.taken;
     let answer = loaded.answer;
-    number(answer)
+    answers::refusal_number(answer)
 }
 
 // Write sheet.
@@ -155,7 +127,7 @@ pub extern "C" fn walnut_write_sheet(
     let written = write::write_sheet(sheet, buffer);
     *count = written.count;
     let answer = written.answer;
-    number(answer)
+    answers::refusal_number(answer)
 }
 
 // The kind of an edit: 0 in, 1 run, 2 out, 3 off, 4 refused.

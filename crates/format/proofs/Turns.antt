@@ -19,10 +19,10 @@ use Rattle.text.specs.Shapes.{withOne, withSome}
 use Rattle.text.proofs.Counted.{one-is, one-not, two-is, two-not}
 use Rattle.sheet.specs.declared.Sheet.{Sheet}
 use Rattle.sheet.specs.Darts.{dartAt}
-use Rattle.sheet.specs.Refusals.{isAccepted}
+use Rattle.answers.specs.Refusals.{isAccepted}
 use Rattle.sheet.specs.Check.{judge}
-use Rattle.sheet.specs.declared.Answer.{Answer}
-use Rattle.sheet.specs.declared.Answer.the-variants.{Accepted, BadLayout, CountOutOfLimits, BadEdge, BadRotation}
+use Rattle.answers.specs.declared.Answer.{Answer}
+use Rattle.answers.specs.declared.Answer.the-variants.{Accepted, BadLayout, CountOutOfLimits, BadEdge, BadRotation}
 use Rattle.format.specs.declared.lines.Count.{Count}
 use Rattle.format.specs.declared.lines.Count.the-variants as counts
 use Rattle.format.specs.declared.lines.Step.{Step}
@@ -31,7 +31,8 @@ use Rattle.format.specs.Keys.{wireKey, aroundKey}
 use Rattle.format.specs.Rings.{isRotation, linkFrom, linkRing}
 use Rattle.format.specs.Load.{Parsed, emptySheet, withEdge, withNexts, judged, ringLines, edgeLines, withCount, loaded}
 use Rattle.format.specs.Load.Parsed.{refused}
-use Rattle.format.specs.Steps.{sheetOf, noNexts, countOf, Joint, afterEdges, EdgesRead, afterRings, touchesAt, dartOf, numbersOn, fitFrom, linkedFrom, linked}
+use Rattle.sheet.specs.Arrays.{sheetOf}
+use Rattle.format.specs.Steps.{noNexts, countOf, Joint, afterEdges, EdgesRead, afterRings, touchesAt, dartOf, numbersOn, fitFrom, linkedFrom, linked}
 use Rattle.format.proofs.Occurrences.{rotation-if, rotation-length, rotation-fits}
 use Rattle.format.proofs.Shapes.{line-some, line-none}
 

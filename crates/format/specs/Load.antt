@@ -8,9 +8,9 @@ use Rattle.counting.specs.Choice.{pick}
 use Rattle.text.specs.Reading.{Listed, lineAt}
 use Rattle.text.specs.Shapes.{withOne, withTwo, withSome}
 use Rattle.sheet.specs.declared.Sheet.{Sheet}
-use Rattle.sheet.specs.declared.Answer.{Answer}
-use Rattle.sheet.specs.declared.Answer.the-variants.{Accepted, BadLayout, CountOutOfLimits, BadEdge, BadRotation}
-use Rattle.sheet.specs.Refusals.{isAccepted}
+use Rattle.answers.specs.declared.Answer.{Answer}
+use Rattle.answers.specs.declared.Answer.the-variants.{Accepted, BadLayout, CountOutOfLimits, BadEdge, BadRotation}
+use Rattle.answers.specs.Refusals.{isAccepted}
 use Rattle.sheet.specs.Check.{judge}
 use Rattle.format.specs.declared.Loaded.{Loaded}
 use Rattle.format.specs.Keys.{barsKey, wiresKey, wireKey, aroundKey}

@@ -12,8 +12,8 @@ use Rattle.counting.specs.Choice.{pick}
 use Rattle.text.specs.Reading.{Listed, numbersAt}
 use Rattle.text.specs.Reading.Listed.{listed, unlisted}
 use Rattle.text.specs.Shapes.{withOne}
-use Rattle.sheet.specs.declared.Sheet.{Sheet}
-use Rattle.sheet.specs.declared.Answer.the-variants.{BadLayout, CountOutOfLimits}
+use Rattle.sheet.specs.Arrays.{sheetOf}
+use Rattle.answers.specs.declared.Answer.the-variants.{BadLayout, CountOutOfLimits}
 use Rattle.format.specs.declared.lines.Count.{Count}
 use Rattle.format.specs.declared.lines.Count.the-variants as counts
 use Rattle.format.specs.declared.lines.Step.{Step}
@@ -22,9 +22,6 @@ use Rattle.format.specs.declared.rings.Entry.{Entry}
 use Rattle.format.specs.declared.rings.Entry.the-variants.{Edge, Bad}
 use Rattle.format.specs.Load.{Parsed, judged, ringLines, edgeLines}
 use Rattle.format.specs.Load.Parsed.{refused}
-
-abbrev pub sheetOf : ℕ → ℕ → List ℕ → List ℕ → List ℕ → Sheet
-sheetOf n m tails heads nexts = record { vertices = n; edges = m; tails = tails; heads = heads; nexts = nexts }
 
 unfoldable pub noNexts : List ℕ
 noNexts = replicate 512 0

@@ -2,10 +2,11 @@
 ghost use mathlib.Core.Path.{_≡_};
 ghost use Prim.Native.Nat.{ℕ, _≤_, _<_};
 ghost use Rattle.format.specs.Load.{refused, emptySheet, judged, ringLines, edgeLines, loaded, load};
-ghost use Rattle.format.specs.Steps.{sheetOf, noNexts, Joint};
+ghost use Rattle.sheet.specs.Arrays.{sheetOf};
+ghost use Rattle.format.specs.Steps.{noNexts, Joint};
+use answers::Answer;
 use lines::Count;
 use lines::Step;
-use sheet::Answer;
 use sheet::Sheet;
 
 mod lines;
@@ -34,7 +35,7 @@ fn load_judged(s: Sheet, next: usize, present: Sheet) -> Loaded
     ensures { λ r. ⌜ r ≡ loaded present (judged s next) ⌝ }
 {
     let answer = sheet::judge(s);
-    if !sheet::is_accepted(answer) {
+    if !answers::is_accepted(answer) {
         return refuse(answer, present);
     }
     Loaded {

@@ -1,13 +1,13 @@
 // The lines of a sheet before its rings: the two counts, and the edges.
 ghost use mathlib.Core.Path.{_≡_};
-ghost use mathlib.Core.Bool.{not, _&&_};
+ghost use mathlib.Core.Bool.{_&&_};
 ghost use Prim.Native.Nat.{_≤_};
 ghost use lib.ListN.{length};
-ghost use lib.Dec.{leb, ltb, eqb};
+ghost use lib.Dec.{leb};
 ghost use Rattle.text.specs.Reading.{lineAt};
 ghost use Rattle.format.specs.Steps.{countOf, EdgesRead};
+use answers::Answer;
 use counting::wide;
-use sheet::Answer;
 
 // A count with the place after its line, or a refusal.
 pub enum Count {
@@ -43,18 +43,6 @@ pub fn count_line(text: &[u8], at: usize, key: &[u8], most: usize) -> Count
     Count::Value(n, read.next)
 }
 
-fn joins(n: usize, a: u16, b: u16) -> bool
-    ensures { λ r. ⌜ r ≡ (ltb a n && ltb b n && not (eqb a b)) ⌝ }
-{
-    if n <= wide(a) {
-        return false;
-    }
-    if n <= wide(b) {
-        return false;
-    }
-    a != b
-}
-
 // m lines `wire=tail,head` of a sheet with n vertices.
 pub fn edge_lines(
     text: &[u8],
@@ -77,7 +65,7 @@ pub fn edge_lines(
         let values = read.values;
         let a = values[0];
         let b = values[1];
-        if !joins(n, a, b) {
+        if !sheet::joins(n, a, b) {
             return Step::Refused(Answer::BadEdge);
         }
         tails[k] = a;

@@ -6,8 +6,8 @@ ghost use Rattle.counting.specs.Counts.{count};
 ghost use Rattle.text.specs.Reading.{numberAt};
 ghost use Rattle.format.specs.Steps.{Joint, touchesAt, dartOf, fitsOf, edgeOf, marksOf, numbersOn, RingRead, RingsRead};
 use crate::lines::Step;
+use answers::Answer;
 use counting::wide;
-use sheet::Answer;
 use text::Number;
 
 // An edge of a line: its dart at the line's vertex and the place after its number; or one that may not stand there.

@@ -11,8 +11,8 @@ use Rattle.digraph.specs.Relaxed as digraph
 use Rattle.text.specs.Reading.{digitOf, numberOf, startsWith, before, lineEndAt, afterNumber, numbersFrom, closed, lineAt, lastClosed, lastLineAt}
 use Rattle.text.specs.Shapes.{withOne, withTwo, withFour, withSome}
 use Rattle.text.specs.Written.{decimal, separated, line}
-use Rattle.sheet.specs.Answers.{refusalNumber}
-use Rattle.sheet.specs.Refusals.{first, isAccepted}
+use Rattle.answers.specs.Answers.{refusalNumber}
+use Rattle.answers.specs.Refusals.{first, isAccepted}
 use Rattle.sheet.specs.Darts.{opposite, vertex, touches, dartAt}
 use Rattle.sheet.specs.Fresh.{freshSheet}
 use Rattle.sheet.specs.Check.{sound, withinLimits, joined, inRings, unusedZero, rooted, acyclic, rowLevels, poles, incoming, outgoing, planar, faceTable, columnLevels, faceFrom, faceTo, edgeTable, judge}

@@ -2,7 +2,7 @@
 use Prim.Native.Nat.{ℕ}
 use mathlib.Core.List.{List, [], _∷_}
 use Rattle.sheet.specs.declared.Sheet.{Sheet}
-use Rattle.sheet.specs.declared.Answer.{Answer}
+use Rattle.answers.specs.declared.Answer.{Answer}
 use Rattle.sheet.specs.Fresh.{freshSheet}
 use Rattle.format.specs.Load.{load}
 use Rattle.edit.specs.declared.Edited.{Edited}

@@ -8,10 +8,10 @@ use Rattle.text.specs.Bytes.{bytes}
 use Rattle.counting.specs.Choice.{pick}
 use Rattle.text.specs.Written.{line}
 use Rattle.sheet.specs.declared.Sheet.{Sheet}
-use Rattle.sheet.specs.declared.Answer.{Answer}
-use Rattle.sheet.specs.declared.Answer.the-variants.{InputTooLong}
-use Rattle.sheet.specs.Answers.{refusalNumber}
-use Rattle.sheet.specs.Refusals.{isAccepted}
+use Rattle.answers.specs.declared.Answer.{Answer}
+use Rattle.answers.specs.declared.Answer.the-variants.{InputTooLong}
+use Rattle.answers.specs.Answers.{refusalNumber}
+use Rattle.answers.specs.Refusals.{isAccepted}
 use Rattle.sheet.specs.Fresh.{freshSheet}
 use Rattle.format.specs.declared.Loaded.{Loaded}
 use Rattle.format.specs.Load.{load}

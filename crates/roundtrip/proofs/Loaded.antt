@@ -14,9 +14,9 @@ use Rattle.text.specs.Reading.{Listed, lineAt}
 use Rattle.text.specs.Reading.Listed.{listed, unlisted}
 use Rattle.text.specs.Shapes.{withOne, withTwo, withSome}
 use Rattle.sheet.specs.declared.Sheet.{Sheet}
-use Rattle.sheet.specs.declared.Answer.the-variants.{Accepted, BadRoot, Cyclic, BadPoles, NotPlanar}
-use Rattle.sheet.specs.Answers.{refusalNumber}
-use Rattle.sheet.specs.Refusals.{first, _if_, isAccepted}
+use Rattle.answers.specs.declared.Answer.the-variants.{Accepted, BadRoot, Cyclic, BadPoles, NotPlanar}
+use Rattle.answers.specs.Answers.{refusalNumber}
+use Rattle.answers.specs.Refusals.{first, _if_, isAccepted}
 use Rattle.sheet.specs.Darts.{Sized, tail, head, darts, touches, dartAt, next}
 use Rattle.sheet.specs.Sound.{Joins, Sound}
 use Rattle.sheet.specs.Check.{rooted, acyclic, poles, planar, judge}

@@ -17,8 +17,8 @@ use Rattle.layout.specs.Layout.{Holds, Numerals}
 use Rattle.layout.proofs.Holding.{holds-left, holds-right}
 use Rattle.layout.proofs.Laws.{layout}
 use Rattle.sheet.specs.declared.Sheet.{Sheet}
-use Rattle.sheet.specs.Answers.{refusalNumber}
-use Rattle.sheet.specs.Refusals.{isAccepted}
+use Rattle.answers.specs.Answers.{refusalNumber}
+use Rattle.answers.specs.Refusals.{isAccepted}
 use Rattle.sheet.specs.Darts.{Sized, tail, head, darts, touches, vertex, next}
 use Rattle.sheet.specs.Sound.{Joins, Sound}
 use Rattle.soundness.proofs.Rings.{vertex-below}

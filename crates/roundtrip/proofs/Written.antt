@@ -6,10 +6,10 @@ use Prim.Native.Nat.{ℕ}
 use native.Mathlib.Omega.{arith}
 use lib.ListN.{length, drop}
 use Rattle.counting.proofs.Iterate.{by-bool}
-use Rattle.sheet.specs.declared.Answer.{Answer}
-use Rattle.sheet.specs.declared.Answer.the-variants.{Accepted, NotSound}
-use Rattle.sheet.specs.Answers.{refusalNumber}
-use Rattle.sheet.specs.Refusals.{isAccepted}
+use Rattle.answers.specs.declared.Answer.{Answer}
+use Rattle.answers.specs.declared.Answer.the-variants.{Accepted, NotSound}
+use Rattle.answers.specs.Answers.{refusalNumber}
+use Rattle.answers.specs.Refusals.{isAccepted}
 use Rattle.sheet.specs.Check.{sound}
 use Rattle.soundness.proofs.Refusals.{accepts}
 use Rattle.soundness.proofs.Law.{sound-law}

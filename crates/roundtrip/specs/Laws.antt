@@ -4,7 +4,7 @@ use mathlib.Core.List.{List, _++_}
 use Prim.Native.Nat.{ℕ}
 use lib.ListN.{length}
 use Rattle.sheet.specs.declared.Sheet.{Sheet}
-use Rattle.sheet.specs.declared.Answer.the-variants.{Accepted}
+use Rattle.answers.specs.declared.Answer.the-variants.{Accepted}
 use Rattle.sheet.specs.Darts.{Sized}
 use Rattle.sheet.specs.Sound.{Sound}
 use Rattle.format.specs.Load.{load}

@@ -17,11 +17,11 @@ use Rattle.digraph.specs.Digraph.{Within}
 use Rattle.digraph.specs.Relaxed.{withinOf, climbs, rounds, answer, levelsOf}
 use Rattle.digraph.proofs.Tests.{within-is}
 use Rattle.sheet.specs.declared.Sheet.{Sheet}
-use Rattle.sheet.specs.declared.Answer.{Answer}
-use Rattle.sheet.specs.declared.Answer.the-variants.{Accepted, BadRoot, Cyclic, BadPoles, NotPlanar, NotSound}
+use Rattle.answers.specs.declared.Answer.{Answer}
+use Rattle.answers.specs.declared.Answer.the-variants.{Accepted, BadRoot, Cyclic, BadPoles, NotPlanar, NotSound}
 use Rattle.sheet.specs.declared.Findings.{Findings}
-use Rattle.sheet.specs.Answers.{refusalNumber}
-use Rattle.sheet.specs.Refusals.{first, isAccepted, _if_}
+use Rattle.answers.specs.Answers.{refusalNumber}
+use Rattle.answers.specs.Refusals.{first, isAccepted, _if_}
 use Rattle.sheet.specs.Darts.{tail, head, darts}
 use Rattle.sheet.specs.Check.{withinLimits, joined, unusedZero, rooted, rowLevels, acyclic, incoming, outgoing, poles, faceTable, planar, sound, judge}
 use Rattle.sheet.specs.Findings.{refused, accepted, structured, judgedOf, findingsOf}

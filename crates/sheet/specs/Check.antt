@@ -10,9 +10,9 @@ use Rattle.orbits.specs.Tables.{traced, isPermutation}
 use Rattle.digraph.specs.declared.Layering.{Layering}
 use Rattle.digraph.specs.Relaxed.{levelsOf}
 use Rattle.sheet.specs.declared.Sheet.{Sheet}
-use Rattle.sheet.specs.declared.Answer.{Answer}
-use Rattle.sheet.specs.declared.Answer.the-variants.{BadRoot, Cyclic, BadPoles, NotPlanar}
-use Rattle.sheet.specs.Refusals.{first, _if_}
+use Rattle.answers.specs.declared.Answer.{Answer}
+use Rattle.answers.specs.declared.Answer.the-variants.{BadRoot, Cyclic, BadPoles, NotPlanar}
+use Rattle.answers.specs.Refusals.{first, _if_}
 use Rattle.sheet.specs.Darts.{tail, head, tailDart, headDart, darts, vertex, next, walk}
 
 -- n and m are within limits

@@ -2,10 +2,10 @@
 use mathlib.Core.Bool.{Bool, cond, _&&_}
 use lib.ListN.{replicate}
 use Rattle.sheet.specs.declared.Sheet.{Sheet}
-use Rattle.sheet.specs.declared.Answer.{Answer}
-use Rattle.sheet.specs.declared.Answer.the-variants.{Accepted, NotSound}
+use Rattle.answers.specs.declared.Answer.{Answer}
+use Rattle.answers.specs.declared.Answer.the-variants.{Accepted, NotSound}
 use Rattle.sheet.specs.declared.Findings.{Findings}
-use Rattle.sheet.specs.Refusals.{isAccepted}
+use Rattle.answers.specs.Refusals.{isAccepted}
 use Rattle.sheet.specs.Check.{withinLimits, joined, inRings, unusedZero, rowLevels, faceTable, sound, judge}
 
 unfoldable pub refused : Answer → Findings

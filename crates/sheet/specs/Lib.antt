@@ -1,5 +1,3 @@
-pub mod Answers
-pub mod Refusals
 pub mod Darts
 pub mod Fresh
 pub mod Sound

@@ -1,15 +1,16 @@
-// The sheet record, the answers of all calls, the fresh sheet, and the check of soundness, in time linear in the sheet.
+// The sheet record, the fresh sheet, and the check of soundness, in time linear in the sheet.
 ghost use mathlib.Core.Path.{_≡_};
 ghost use mathlib.Core.Bool.{not, _&&_, _||_};
 ghost use Prim.Native.Nat.{_*_, _≤_, _<_};
 ghost use lib.Dec.{eqb, ltb};
 ghost use lib.ListN.{length};
 ghost use Rattle.counting.specs.Below.{allBelow, tabulate};
-ghost use Rattle.sheet.specs.Refusals.{isAccepted};
 ghost use Rattle.sheet.specs.Fresh.{freshSheet};
 ghost use Rattle.sheet.specs.Check.{sound, judge};
 ghost use Rattle.sheet.specs.Findings.{refused, structured, judgedOf, findingsOf};
 ghost use Rattle.sheet.specs.Arrays.{sheetOf, limitsOf, joinsAt, zeroAt, unusedOf, Ends, dartTable, vertexOf, walkOf, ringAt, Readable, ringsOf, endOf, poleAt, polesOf, rootedOf};
+use answers::Answer;
+use answers::is_accepted;
 use counting::wide;
 
 // A sheet by value. Edge k (document 01's wire k) goes from vertex (bar) tails[k] to heads[k]. Dart 2k (end 2k)
@@ -20,29 +21,6 @@ pub struct Sheet {
     pub tails: [u16; 256],
     pub heads: [u16; 256],
     pub nexts: [u16; 512],
-}
-
-// What a call answers. The numbers of document 01 stand in specs/Answers.antt.
-pub enum Answer {
-    Accepted,
-    BadLayout,
-    CountOutOfLimits,
-    BadEdge,
-    BadRotation,
-    BadRoot,
-    Cyclic,
-    BadPoles,
-    NotPlanar,
-    NotSound,
-    NotInSheet,
-    Full,
-    RootEdge,
-    CornersApart,
-    ClosesCircle,
-    EdgeNeeded,
-    VertexNeeded,
-    BufferTooShort,
-    InputTooLong,
 }
 
 // The fresh sheet: vertices 0 and 1, edges 0 and 1 both from 0 to 1.
@@ -77,17 +55,6 @@ pub struct Findings {
 // Stands for the ring of a vertex of which no dart was seen.
 const NONE: u16 = 512;
 
-// Whether the answer is acceptance.
-pub fn is_accepted(a: Answer) -> bool
-    ensures { λ r. ⌜ r ≡ isAccepted a ⌝ }
-{
-    if let Answer::Accepted = a {
-        true
-    } else {
-        false
-    }
-}
-
 // A refusal: nothing is found.
 fn refuse(answer: Answer) -> Findings
     ensures { λ r. ⌜ r ≡ refused answer ⌝ }
@@ -117,7 +84,7 @@ fn within_limits(n: usize, m: usize) -> bool
 }
 
 // Whether an edge joins two different vertices of n.
-fn joins(n: usize, tail: u16, head: u16) -> bool
+pub fn joins(n: usize, tail: u16, head: u16) -> bool
     ensures { λ r. ⌜ r ≡ (ltb tail n && ltb head n && not (eqb tail head)) ⌝ }
 {
     if n <= wide(tail) {

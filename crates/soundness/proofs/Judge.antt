@@ -6,7 +6,7 @@ use mathlib.Core.List.{[]}
 use Prim.Native.Nat.{ℕ}
 use native.Mathlib.Omega.{arith}
 use Rattle.sheet.specs.declared.Sheet.{Sheet}
-use Rattle.sheet.specs.declared.Answer.the-variants.{Accepted, BadRoot, Cyclic, BadPoles, NotPlanar}
+use Rattle.answers.specs.declared.Answer.the-variants.{Accepted, BadRoot, Cyclic, BadPoles, NotPlanar}
 use Rattle.sheet.specs.Check.{withinLimits, joined, inRings, unusedZero, rooted, acyclic, poles, planar, sound, judge}
 use Rattle.soundness.specs.Laws.{Lined, Judge-Law}
 use Rattle.soundness.proofs.Tests.{Says, reworded, and-says, itself}

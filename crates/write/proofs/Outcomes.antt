@@ -8,9 +8,9 @@ use lib.ListN.{length}
 use lib.Seq.{sets, sets-eq}
 use borrow.Author.Tests.{lt-ltb, le-ltb}
 use Rattle.sheet.specs.declared.Sheet.{Sheet}
-use Rattle.sheet.specs.declared.Answer.the-variants.{Accepted, NotSound, BufferTooShort}
-use Rattle.sheet.specs.Answers.{refusalNumber}
-use Rattle.sheet.specs.Refusals.{first, isAccepted}
+use Rattle.answers.specs.declared.Answer.the-variants.{Accepted, NotSound, BufferTooShort}
+use Rattle.answers.specs.Answers.{refusalNumber}
+use Rattle.answers.specs.Refusals.{first, isAccepted}
 use Rattle.sheet.specs.Check.{sound}
 use Rattle.write.specs.declared.Written.{Written}
 use Rattle.write.specs.Write.{writeAnswer, written, bufferAfter}

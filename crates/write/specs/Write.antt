@@ -8,9 +8,9 @@ use Rattle.counting.specs.Below.{joinBelow}
 use Rattle.counting.specs.Choice.{pick}
 use Rattle.text.specs.Written.{line}
 use Rattle.sheet.specs.declared.Sheet.{Sheet}
-use Rattle.sheet.specs.declared.Answer.{Answer}
-use Rattle.sheet.specs.declared.Answer.the-variants.{Accepted, NotSound, BufferTooShort}
-use Rattle.sheet.specs.Refusals.{first, _if_, isAccepted}
+use Rattle.answers.specs.declared.Answer.{Answer}
+use Rattle.answers.specs.declared.Answer.the-variants.{Accepted, NotSound, BufferTooShort}
+use Rattle.answers.specs.Refusals.{first, _if_, isAccepted}
 use Rattle.sheet.specs.Darts.{tail, head}
 use Rattle.sheet.specs.Check.{sound}
 use Rattle.write.specs.declared.Written.{Written}

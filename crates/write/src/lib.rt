@@ -9,8 +9,8 @@ ghost use Rattle.sheet.specs.declared.Sheet.{Sheet};
 ghost use Rattle.write.specs.Rings.{ringFrom};
 ghost use Rattle.write.specs.Texts.{edgeText, ringText, Firsts};
 ghost use Rattle.write.specs.Write.{sheetText, writeSheet, bufferAfterSheet};
+use answers::Answer;
 use counting::wide;
-use sheet::Answer;
 use sheet::Sheet;
 
 // What a writer answers: how many bytes of the lent buffer it filled.

@@ -1,6 +1,6 @@
 use mathlib.Core.Path.{ap, _∙_}
 use borrow.Author.Needs.{needs}
-use Rattle.sheet.specs.Answers.{refusalNumber}
+use Rattle.answers.specs.Answers.{refusalNumber}
 use Rattle.write.specs.declared.Written.{Written}
 use Rattle.exports.proofs.walnut_write_sheet.Statement.{statement}
 use Rattle.exports.proofs.walnut_write_sheet.Tie as tie
@@ -8,8 +8,8 @@ use Rattle.exports.proofs.walnut_write_sheet.Tie as tie
 write-sheet-requires : tie.Need-write-sheet-requires
 write-sheet-requires c κs = search needs
 
-number-requires : tie.Need-number-requires
-number-requires c κs = search needs
+refusal-number-requires : tie.Need-refusal-number-requires
+refusal-number-requires c κs = search needs
 
 same-length : tie.Need-same-length
 same-length c = search needs
@@ -18,11 +18,11 @@ returns : tie.Need-returns
 returns c =
     let written = c .before .before .before .write-sheet .ensures in
     record {
-      answer = c .number .ensures ∙ ap (λ (w : Written). refusalNumber (w .answer)) (written .0);
+      answer = c .refusal-number .ensures ∙ ap (λ (w : Written). refusalNumber (w .answer)) (written .0);
       bytes = ap (λ (w : Written). w .count) (written .0);
       filled = written .1;
     }
 
 pub walnut-write-sheet-spec : {M : Type 1} → statement M
 walnut-write-sheet-spec =
-    tie.close (tie.spec write-sheet-requires number-requires same-length returns)
+    tie.close (tie.spec write-sheet-requires refusal-number-requires same-length returns)

@@ -1,7 +1,7 @@
 -- `sheet::is_sound` meets its contract. What `examine` answers. Assumes nothing.
 use mathlib.Core.Path.{ap, _∙_}
 use Rattle.sheet.specs.declared.Findings.{Findings}
-use Rattle.sheet.specs.Refusals.{isAccepted}
+use Rattle.answers.specs.Refusals.{isAccepted}
 use Rattle.sheet.proofs.Clauses.{findings-answer}
 use borrow.Author.Needs.{needs}
 use Rattle.sheet.proofs.is_sound.Statement.{statement}

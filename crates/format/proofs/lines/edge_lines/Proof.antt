@@ -3,9 +3,10 @@ use mathlib.Core.Path.{_≡_, refl, sym, _∙_}
 use lib.ListN.{length, length-set}
 use native.Mathlib.Omega.{arith}
 use borrow.Author.Tests.{not-true, not-false}
-use Rattle.sheet.specs.declared.Answer.the-variants.{BadLayout, BadEdge}
+use Rattle.answers.specs.declared.Answer.the-variants.{BadLayout, BadEdge}
 use Rattle.format.specs.Load.{edgeLines}
-use Rattle.format.specs.Steps.{sheetOf, noNexts, Joint}
+use Rattle.sheet.specs.Arrays.{sheetOf}
+use Rattle.format.specs.Steps.{noNexts, Joint}
 use Rattle.format.proofs.Turns.{edges-refused, edges-next, edges-over, edge-line-bad, edge-bad, edge-good, joint-more}
 use borrow.Author.Needs.{needs}
 use Rattle.format.proofs.lines.edge_lines.Statement.{statement}

@@ -2,9 +2,9 @@
 use mathlib.Core.Bool.{Bool, cond}
 use mathlib.Core.List.{List, [], _∷_}
 use lib.Dec.{eqb}
-use Rattle.sheet.specs.declared.Answer.{Answer}
-use Rattle.sheet.specs.declared.Answer.the-variants.{Accepted}
-use Rattle.sheet.specs.Answers.{refusalNumber}
+use Rattle.answers.specs.declared.Answer.{Answer}
+use Rattle.answers.specs.declared.Answer.the-variants.{Accepted}
+use Rattle.answers.specs.Answers.{refusalNumber}
 
 infix 80 _if_
 -- a refusal, and the test on which it falls

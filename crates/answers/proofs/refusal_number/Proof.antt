@@ -1,7 +1,7 @@
-use Rattle.sheet.specs.Answers.{refusalNumber}
+use Rattle.answers.specs.Answers.{refusalNumber}
 use borrow.Author.Needs.{needs}
-use Rattle.exports.proofs.number.Statement.{statement}
-use Rattle.exports.proofs.number.Tie as tie
+use Rattle.answers.proofs.refusal_number.Statement.{statement}
+use Rattle.answers.proofs.refusal_number.Tie as tie
 
 enum-told : tie.Need-enum-told
 enum-told c = search needs
@@ -136,8 +136,8 @@ returns-19 : tie.Need-returns-19
 unfolding refusalNumber
 returns-19 c = rw (c .enum-told19 .given .1)
 
-pub number-spec : {M : Type 1} → statement M
-number-spec =
+pub refusal-number-spec : {M : Type 1} → statement M
+refusal-number-spec =
     tie.close
     (tie.spec
     enum-told
