@@ -1,7 +1,7 @@
 // Numbers, keys and line ends of the text layouts, read from bytes.
 ghost use mathlib.Core.Path.{_≡_};
 ghost use mathlib.Core.Bool.{cond};
-ghost use lib.ListN.{getD, drop, set};
+ghost use lib.ListN.{length, getD, drop, set};
 ghost use Rattle.text.specs.Reading.{digitAt, numberAt, startsWith, lineEndAt, unlisted, numbersAt, lineAt, lastLineAt, numbersOf};
 
 // A number that stands at a place of the text, with the place after it, or none.
@@ -113,15 +113,14 @@ fn none() -> Numbers
     }
 }
 
-// A number kept as the one of its count, if it is among the first four.
-fn keep(values: [u16; 4], count: usize, v: u16) -> [u16; 4]
-    ensures { λ r. ⌜ r ≡ set values count v ⌝ }
+// Keeps a number as the one of its count, if it is among the first four.
+fn keep(values: &mut [u16; 4], count: usize, v: u16)
+    requires { ⌜ length (now values) ≡ 4 ⌝ }
+    ensures { λ _. ⌜ now (values .exit) ≡ set (now (values .entry)) count v ⌝ }
 {
-    let mut kept = values;
     if count < 4 {
-        kept[count] = v;
+        values[count] = v;
     }
-    kept
 }
 
 // The numbers at a place, a comma between, of any count.
@@ -136,8 +135,7 @@ pub fn numbers_at(s: &[u8], at: usize) -> Numbers
         match read {
             Number::Missing => return none(),
             Number::Value(v, next) => {
-                let kept = keep(values, count, v);
-                values = kept;
+                keep(&mut values, count, v);
                 count += 1;
                 if byte(s, next) != 44 {
                     return Numbers {
