@@ -7,7 +7,7 @@ ghost use lib.Seq.{sets};
 ghost use Rattle.text.specs.Written.{decimal, lineEnd, line};
 
 // How many digits a number has.
-pub fn digits(v: u16) -> usize
+fn digits(v: u16) -> usize
     ensures { λ r. ⌜ r ≡ length (decimal v) ⌝ }
 {
     if v < 10 {
@@ -20,7 +20,7 @@ pub fn digits(v: u16) -> usize
 }
 
 // Puts bytes at a place of the buffer, and returns the place after them.
-pub fn put_bytes(out: &mut [u8], at: usize, bytes: &[u8]) -> usize
+fn put_bytes(out: &mut [u8], at: usize, bytes: &[u8]) -> usize
     requires { ⌜ at + length (now bytes) ≤ length (now out) ⌝ }
     ensures { λ r. ⌜ (r ≡ at + length (now (bytes .entry))) × (now (out .exit) ≡ sets (now (out .entry)) at (now (bytes .entry))) ⌝ }
 {
@@ -35,7 +35,7 @@ pub fn put_bytes(out: &mut [u8], at: usize, bytes: &[u8]) -> usize
 }
 
 // Puts a number's digits.
-pub fn put_number(out: &mut [u8], at: usize, v: u16) -> usize
+fn put_number(out: &mut [u8], at: usize, v: u16) -> usize
     requires { ⌜ at + length (decimal v) ≤ length (now out) ⌝ }
     ensures { λ r. ⌜ (r ≡ at + length (decimal v)) × (now (out .exit) ≡ sets (now (out .entry)) at (decimal v)) ⌝ }
 {
@@ -55,7 +55,7 @@ pub fn put_number(out: &mut [u8], at: usize, v: u16) -> usize
 }
 
 // Puts a comma and a number.
-pub fn put_next(out: &mut [u8], at: usize, v: u16) -> usize
+fn put_next(out: &mut [u8], at: usize, v: u16) -> usize
     requires { ⌜ at + length (44 ∷ decimal v) ≤ length (now out) ⌝ }
     ensures { λ r. ⌜ (r ≡ at + length (44 ∷ decimal v)) × (now (out .exit) ≡ sets (now (out .entry)) at (44 ∷ decimal v)) ⌝ }
 {
@@ -64,7 +64,7 @@ pub fn put_next(out: &mut [u8], at: usize, v: u16) -> usize
 }
 
 // Puts a line's end.
-pub fn put_line_end(out: &mut [u8], at: usize) -> usize
+fn put_line_end(out: &mut [u8], at: usize) -> usize
     requires { ⌜ at + length lineEnd ≤ length (now out) ⌝ }
     ensures { λ r. ⌜ (r ≡ at + length lineEnd) × (now (out .exit) ≡ sets (now (out .entry)) at lineEnd) ⌝ }
 {

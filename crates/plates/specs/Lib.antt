@@ -1,5 +1,3 @@
-pub mod Calls
-pub mod Demand
 pub mod Program
 pub mod Plates
 pub mod Printed

@@ -16,7 +16,7 @@ use Rattle.sheet.specs.Sound.{Joins, Ring}
 use Rattle.format.specs.Rings.{linkRing}
 use Rattle.soundness.proofs.Darts.{edge-below}
 use Rattle.roundtrip.proofs.Around.{Around}
-use Rattle.roundtrip.proofs.Ends.{EndAt, at-below, at-end, end-touches, end-at}
+use Rattle.soundness.proofs.Ends.{EndAt, at-below, at-end, end-touches, end-at}
 use Rattle.roundtrip.proofs.Linking.{link-other, link-at}
 
 -- entry i of the list, which the first follows

@@ -1,6 +1,5 @@
 pub mod Entries
 pub mod Around
-pub mod Ends
 pub mod Linking
 pub mod Laid
 pub mod Loaded

@@ -11,7 +11,7 @@ use Rattle.sheet.specs.Darts.{dartAt}
 use Rattle.format.specs.Rings.{linkFrom}
 use Rattle.format.specs.Load.{withNexts}
 use Rattle.roundtrip.proofs.Around.{Distinct, distinct-tail}
-use Rattle.roundtrip.proofs.Ends.{at-edge}
+use Rattle.soundness.proofs.Ends.{at-edge}
 
 module _ (s : Sheet) (v first : ℕ) where
   pub link-length : (ws nexts : List ℕ) → length (linkFrom s v first ws nexts) ≡ length nexts

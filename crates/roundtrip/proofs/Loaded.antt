@@ -14,12 +14,13 @@ use Rattle.text.specs.Reading.{Listed, lineAt}
 use Rattle.text.specs.Reading.Listed.{listed, unlisted}
 use Rattle.text.specs.Shapes.{withOne, withTwo, withSome}
 use Rattle.sheet.specs.declared.Sheet.{Sheet}
-use Rattle.answers.specs.declared.Answer.the-variants.{Accepted, BadRoot, Cyclic, BadPoles, NotPlanar}
+use Rattle.answers.specs.declared.Answer.the-variants.{Accepted}
 use Rattle.answers.specs.Answers.{refusalNumber}
-use Rattle.answers.specs.Refusals.{first, _if_, isAccepted}
+use Rattle.answers.specs.Refusals.{isAccepted}
+use Rattle.answers.proofs.Refusals.{accepted-is}
 use Rattle.sheet.specs.Darts.{Sized, tail, head, darts, touches, dartAt, next}
 use Rattle.sheet.specs.Sound.{Joins, Sound}
-use Rattle.sheet.specs.Check.{rooted, acyclic, poles, planar, judge}
+use Rattle.sheet.specs.Check.{judge}
 use Rattle.soundness.proofs.Tests.{Says, lt-says, le-says, eq-says, and-says, not-says}
 use Rattle.soundness.specs.Laws.{Lined}
 use Rattle.soundness.proofs.Clauses.{Limits, limits-law, joined-law, unused-law}
@@ -33,7 +34,7 @@ use Rattle.format.specs.Load.Parsed.{parsed, refused}
 use Rattle.roundtrip.specs.Laws.{Loaded-Sound}
 use Rattle.roundtrip.proofs.Entries.{zeros-length, zeros-each}
 use Rattle.roundtrip.proofs.Around.{Around, around-law}
-use Rattle.roundtrip.proofs.Ends.{at-below}
+use Rattle.soundness.proofs.Ends.{at-below}
 use Rattle.roundtrip.proofs.Linking.{link-length, link-anew, link-other}
 use Rattle.roundtrip.proofs.Laid.{Laid, link-lays, link-keeps, laid-ring}
 
@@ -114,21 +115,9 @@ edge-read s k a b E h l m n = record {
 -- ---- the rings
 
 -- after the last line
-accepting : (s : Sheet) → isAccepted (judge s) ≡ true → judge s ≡ Accepted
-unfolding judge first isAccepted refusalNumber
-accepting s = go (rooted s) (acyclic s) (poles s) (planar s)
-  where
-    go : (r a p q : Bool) → isAccepted (first (BadRoot if not r ∷ Cyclic if not a ∷ BadPoles if not p ∷ NotPlanar if not q ∷ [])) ≡ true
-        → first (BadRoot if not r ∷ Cyclic if not a ∷ BadPoles if not p ∷ NotPlanar if not q ∷ []) ≡ Accepted
-    go true true true true t = refl
-    go true true true false t = absurd (false≢true t)
-    go true true false q t = absurd (false≢true t)
-    go true false p q t = absurd (false≢true t)
-    go false a p q t = absurd (false≢true t)
-
 judged-good : (s : Sheet) (at : ℕ) → Sized s → Lined s → Good (judged s at)
 unfolding judged
-judged-good s at z l = pick-each Good (isAccepted (judge s)) _ _ (λ t. (z, sound-law s z .0 (judge-law s l .0 (accepting s t)))) (λ t. t)
+judged-good s at z l = pick-each Good (isAccepted (judge s)) _ _ (λ t. (z, sound-law s z .0 (judge-law s l .0 (accepted-is (judge s) t)))) (λ t. t)
 
 -- the next-ends of the bars below v are read
 record Ringed (s : Sheet) (v : ℕ) (nexts : List ℕ) : Type 0 where

@@ -24,7 +24,7 @@ use Rattle.soundness.proofs.Law.{rotation-of}
 use Rattle.format.specs.Rings.{linkRing}
 use Rattle.write.specs.Rings.{ringFrom, rotation}
 use Rattle.roundtrip.proofs.Around.{Around}
-use Rattle.roundtrip.proofs.Ends.{EndAt, at-edge, at-below, at-end, end-touches, end-at}
+use Rattle.soundness.proofs.Ends.{EndAt, at-edge, at-below, at-end, end-touches, end-at}
 use Rattle.roundtrip.proofs.Linking.{link-at}
 
 -- ---- the lowest number that passes

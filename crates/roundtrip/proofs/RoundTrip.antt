@@ -33,7 +33,7 @@ use Rattle.write.specs.Write.{sheetText}
 use Rattle.roundtrip.specs.Laws.{Round-Trip}
 use Rattle.roundtrip.proofs.Entries.{zeros, zeros-length, zeros-each, Filled, filled-none, filled-more, filled-all}
 use Rattle.roundtrip.proofs.Around.{around-law}
-use Rattle.roundtrip.proofs.Ends.{at-below}
+use Rattle.soundness.proofs.Ends.{at-below}
 use Rattle.roundtrip.proofs.Linking.{link-length, link-anew, link-other}
 use Rattle.roundtrip.proofs.Laid.{link-leaves}
 use Rattle.roundtrip.proofs.Rotations.{Rotated, rotated}

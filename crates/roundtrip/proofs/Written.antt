@@ -11,7 +11,7 @@ use Rattle.answers.specs.declared.Answer.the-variants.{Accepted, NotSound}
 use Rattle.answers.specs.Answers.{refusalNumber}
 use Rattle.answers.specs.Refusals.{isAccepted}
 use Rattle.sheet.specs.Check.{sound}
-use Rattle.soundness.proofs.Refusals.{accepts}
+use Rattle.answers.proofs.Refusals.{accepts}
 use Rattle.soundness.proofs.Law.{sound-law}
 use Rattle.write.specs.Write.{sheetText, writeAnswer, written, bufferAfter}
 use Rattle.roundtrip.specs.Laws.{Written-Loads}

@@ -18,16 +18,7 @@ use Rattle.soundness.proofs.Tests.{Says, eq-says, reworded}
 use Rattle.soundness.proofs.Darts.{opposite-below, opposite-opposite}
 use Rattle.soundness.proofs.Rings.{Rotation}
 
-module _ (s : Sheet) (few : s .edges ≤ 256) (r : Rotation s) where
-  pub walk-perm : Perm (darts s) (walk s)
-  walk-perm = record {
-    below = λ d h. r .perm .below (opposite d) (opposite-below s d h);
-    one-one = λ d e h k q.
-        sym (opposite-opposite d)
-        ∙ ap opposite (r .perm .one-one (opposite d) (opposite e) (opposite-below s d h) (opposite-below s e k) q)
-        ∙ opposite-opposite e;
-  }
-
+module _ (s : Sheet) (few : s .edges ≤ 256) (p : Perm (darts s) (walk s)) where
   -- the walk as a table
   walks : List ℕ
   walks = tabulate (walk s) (darts s) ++ replicate (512 - darts s) 0
@@ -38,13 +29,27 @@ module _ (s : Sheet) (few : s .edges ≤ 256) (r : Rotation s) where
 
   walks-perm : Perm (darts s) (entries walks)
   walks-perm = record {
-    below = λ d h. rw (walks-at d h) (walk-perm .below d h);
-    one-one = λ d e h k q. walk-perm .one-one d e h k (sym (walks-at d h) ∙ q ∙ walks-at e k);
+    below = λ d h. rw (walks-at d h) (p .below d h);
+    one-one = λ d e h k q. p .one-one d e h k (sym (walks-at d h) ∙ q ∙ walks-at e k);
+  }
+
+  -- the faces of a sheet whose walk permutes the darts
+  pub walk-faces : Faces s (face s) (faceCount s)
+  unfolding walks faceTable
+  walk-faces = orbits-agree (walk s) walks-perm (λ d h. sym (walks-at d h)) (traced-law (darts s) walks (omega arith) walks-perm .orbits)
+
+module _ (s : Sheet) (few : s .edges ≤ 256) (r : Rotation s) where
+  pub walk-perm : Perm (darts s) (walk s)
+  walk-perm = record {
+    below = λ d h. r .perm .below (opposite d) (opposite-below s d h);
+    one-one = λ d e h k q.
+        sym (opposite-opposite d)
+        ∙ ap opposite (r .perm .one-one (opposite d) (opposite e) (opposite-below s d h) (opposite-below s e k) q)
+        ∙ opposite-opposite e;
   }
 
   pub faces-numbered : Faces s (face s) (faceCount s)
-  unfolding walks faceTable
-  faces-numbered = orbits-agree (walk s) walks-perm (λ d h. sym (walks-at d h)) (traced-law (darts s) walks (omega arith) walks-perm .orbits)
+  faces-numbered = walk-faces s few walk-perm
 
   -- however the faces are numbered, there are as many
   pub faces-unique : {label : ℕ → ℕ} {count : ℕ} → Faces s label count → count ≡ faceCount s

@@ -10,7 +10,7 @@ use Rattle.answers.specs.declared.Answer.the-variants.{Accepted, BadRoot, Cycli
 use Rattle.sheet.specs.Check.{withinLimits, joined, inRings, unusedZero, rooted, acyclic, poles, planar, sound, judge}
 use Rattle.soundness.specs.Laws.{Lined, Judge-Law}
 use Rattle.soundness.proofs.Tests.{Says, reworded, and-says, itself}
-use Rattle.soundness.proofs.Refusals.{accepts-none, accepts}
+use Rattle.answers.proofs.Refusals.{accepts-none, accepts}
 
 -- the single tests
 pub record Passed (s : Sheet) : Type 0 where

@@ -4,10 +4,10 @@ pub mod Clauses
 pub mod Rings
 pub mod Levels
 pub mod Faces
-pub mod Refusals
 pub mod Judge
 pub mod Law
 pub mod Rows
 pub mod Plane
 pub mod Columns
 pub mod Fresh
+pub mod Ends

@@ -10,7 +10,7 @@ use Rattle.sheet.specs.Fresh.{freshSheet}
 use Rattle.drawing.specs.declared.Drawn.{Drawn}
 use Rattle.drawing.specs.Draw.{drawCall, drawingOf}
 use Rattle.drawing.specs.Clear.{Right}
-use Rattle.plates.specs.Calls.{Call, Outcome, outcome, afterCalls}
+use Rattle.demand.specs.Calls.{Call, Outcome, outcome, afterCalls}
 
 -- A call on the sheet s answers as laid down: refused, it returns the sheet it got and takes no bytes; accepted, it returns a sound sheet.
 -- (Which of the two it is, and the sheet that it then returns, is what `outcome` lays down.)

@@ -1,0 +1,6 @@
+pub mod Maps
+pub mod Places
+pub mod Accepted
+pub mod PutIn
+pub mod Reaching
+pub mod RunEdge

@@ -1,0 +1,1 @@
+// What the edits keep: theory, with no functions.
