@@ -22,9 +22,11 @@ use Rattle.roundtrip.proofs.Loaded.{loaded-sound}
 use Rattle.edit.specs.declared.Edited.{Edited}
 use Rattle.edit.specs.Changes.{putIn, runEdge, takeOutEdge, takeOutVertex}
 use Rattle.edit.specs.Calls.{putInAnswer, runAnswer, takeOutEdgeAnswer, takeOutVertexAnswer, edited}
-use Rattle.preservation.specs.Laws.{Whole, Take-Out-Edge-Whole, Take-Out-Vertex-Whole}
+use Rattle.preservation.specs.Laws.{Whole}
 use Rattle.preservation.proofs.PutIn.{put-in-whole}
 use Rattle.preservation.proofs.RunEdge.{run-whole}
+use Rattle.preservation.proofs.TakeOutEdge.{take-out-edge-whole}
+use Rattle.preservation.proofs.TakeOutVertex.{take-out-vertex-whole}
 use Rattle.drawing.specs.Draw.{drawAnswer, drawCall, drawingOf}
 use Rattle.drawing.proofs.Right.{drawing-right}
 use Rattle.demand.specs.Calls.{Call, Outcome, outcome, ofEdit, after}
@@ -63,30 +65,29 @@ load-left s w text = go (parse text) refl
         }
     go (refused a) e = rw e (record { answered = record { refused = λ _. (refl, refl); accepted = λ _. w .0 }; whole = w })
 
-module _ (take-out-edge-whole : Take-Out-Edge-Whole) (take-out-vertex-whole : Take-Out-Vertex-Whole) where
-  call-left : (s : Sheet) → Whole s → (c : Call) → Left s (outcome s c)
-  unfolding outcome
-  call-left s w (load-text text) = load-left s w text
-  call-left s w (put-in k) = edit-left s w (putInAnswer s k) (λ _. putIn s k) (put-in-whole s k (w .1))
-  call-left s w (run a p b q) = edit-left s w (runAnswer s a p b q) (λ _. runEdge s a p b q) (run-whole s a p b q (w .1))
-  call-left s w (take-out-edge k) = edit-left s w (takeOutEdgeAnswer s k) (λ _. takeOutEdge s k) (take-out-edge-whole s k (w .1))
-  call-left s w (take-out-vertex v) = edit-left s w (takeOutVertexAnswer s v) (λ _. takeOutVertex s v) (take-out-vertex-whole s v (w .1))
+call-left : (s : Sheet) → Whole s → (c : Call) → Left s (outcome s c)
+unfolding outcome
+call-left s w (load-text text) = load-left s w text
+call-left s w (put-in k) = edit-left s w (putInAnswer s k) (λ _. putIn s k) (put-in-whole s k (w .1))
+call-left s w (run a p b q) = edit-left s w (runAnswer s a p b q) (λ _. runEdge s a p b q) (run-whole s a p b q (w .1))
+call-left s w (take-out-edge k) = edit-left s w (takeOutEdgeAnswer s k) (λ _. takeOutEdge s k) (take-out-edge-whole s k (w .1))
+call-left s w (take-out-vertex v) = edit-left s w (takeOutVertexAnswer s v) (λ _. takeOutVertex s v) (take-out-vertex-whole s v (w .1))
 
-  each : (s : Sheet) → Whole s → (cs : List Call) → Each s cs
-  each s w [] = none
-  each s w (c ∷ cs) = then (call-left s w c .answered) (each (outcome s c .sheet) (call-left s w c .whole) cs)
+each : (s : Sheet) → Whole s → (cs : List Call) → Each s cs
+each s w [] = none
+each s w (c ∷ cs) = then (call-left s w c .answered) (each (outcome s c .sheet) (call-left s w c .whole) cs)
 
-  after-whole : (s : Sheet) → Whole s → (cs : List Call) → Whole (after s cs)
-  unfolding after
-  after-whole s w [] = w
-  after-whole s w (c ∷ cs) = after-whole (outcome s c .sheet) (call-left s w c .whole) cs
+after-whole : (s : Sheet) → Whole s → (cs : List Call) → Whole (after s cs)
+unfolding after
+after-whole s w [] = w
+after-whole s w (c ∷ cs) = after-whole (outcome s c .sheet) (call-left s w c .whole) cs
 
-  -- a sound sheet has its drawing
-  drawn : (s : Sheet) → Whole s → drawCall s ≡ record { answer = Accepted; drawing = drawingOf s }
-  unfolding drawCall drawAnswer first isAccepted refusalNumber
-  drawn s w = rw (sound-law s (w .1) .1 (w .0)) refl
+-- a sound sheet has its drawing
+drawn : (s : Sheet) → Whole s → drawCall s ≡ record { answer = Accepted; drawing = drawingOf s }
+unfolding drawCall drawAnswer first isAccepted refusalNumber
+drawn s w = rw (sound-law s (w .1) .1 (w .0)) refl
 
-  pub demand : Demand
-  demand cs =
-      let w = after-whole freshSheet (fresh-law, fresh-sized) cs in
-      record { answers = each freshSheet (fresh-law, fresh-sized) cs; sound = w .0; drawn = drawn (after freshSheet cs) w; right = drawing-right (w .0) }
+pub demand : Demand
+demand cs =
+    let w = after-whole freshSheet (fresh-law, fresh-sized) cs in
+    record { answers = each freshSheet (fresh-law, fresh-sized) cs; sound = w .0; drawn = drawn (after freshSheet cs) w; right = drawing-right (w .0) }

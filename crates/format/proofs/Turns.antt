@@ -27,7 +27,7 @@ use Rattle.format.specs.declared.lines.Count.{Count}
 use Rattle.format.specs.declared.lines.Count.the-variants as counts
 use Rattle.format.specs.declared.lines.Step.{Step}
 use Rattle.format.specs.declared.lines.Step.the-variants.{Next, Refused}
-use Rattle.format.specs.Keys.{wireKey, aroundKey}
+use Rattle.text.specs.Keys.{wireKey, aroundKey}
 use Rattle.format.specs.Rings.{isRotation, linkFrom, linkRing}
 use Rattle.format.specs.Load.{Parsed, emptySheet, withEdge, withNexts, judged, ringLines, edgeLines, withCount, loaded}
 use Rattle.format.specs.Load.Parsed.{refused}

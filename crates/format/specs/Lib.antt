@@ -1,4 +1,3 @@
-pub mod Keys
 pub mod Rings
 pub mod Load
 pub mod Steps

@@ -13,7 +13,7 @@ use Rattle.answers.specs.declared.Answer.the-variants.{Accepted, BadLayout, Cou
 use Rattle.answers.specs.Refusals.{isAccepted}
 use Rattle.sheet.specs.Check.{judge}
 use Rattle.format.specs.declared.Loaded.{Loaded}
-use Rattle.format.specs.Keys.{barsKey, wiresKey, wireKey, aroundKey}
+use Rattle.text.specs.Keys.{barsKey, wiresKey, wireKey, aroundKey}
 use Rattle.format.specs.Rings.{isRotation, linkRing}
 
 -- a sheet and the bytes taken, or a refusal

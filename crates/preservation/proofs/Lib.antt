@@ -4,3 +4,11 @@ pub mod Accepted
 pub mod PutIn
 pub mod Reaching
 pub mod RunEdge
+pub mod Fewer
+pub mod Removing
+pub mod Exchange
+pub mod LastEdge
+pub mod LastVertex
+pub mod Degrees
+pub mod TakeOutEdge
+pub mod TakeOutVertex

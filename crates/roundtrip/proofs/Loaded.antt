@@ -28,7 +28,7 @@ use Rattle.soundness.proofs.Rings.{rings-law}
 use Rattle.soundness.proofs.Judge.{judge-law}
 use Rattle.soundness.proofs.Law.{sound-law}
 use Rattle.format.specs.Rings.{isRotation, linkRing}
-use Rattle.format.specs.Keys.{barsKey, wiresKey, wireKey, aroundKey}
+use Rattle.text.specs.Keys.{barsKey, wiresKey, wireKey, aroundKey}
 use Rattle.format.specs.Load.{Parsed, emptySheet, withEdge, withNexts, judged, ringLines, edgeLines, withCount, parse, loaded}
 use Rattle.format.specs.Load.Parsed.{parsed, refused}
 use Rattle.roundtrip.specs.Laws.{Loaded-Sound}

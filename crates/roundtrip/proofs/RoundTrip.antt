@@ -24,7 +24,7 @@ use Rattle.sheet.specs.Sound.{Joins, Sound}
 use Rattle.soundness.proofs.Rings.{vertex-below}
 use Rattle.soundness.proofs.Judge.{passed-says, judge-law}
 use Rattle.soundness.proofs.Law.{sound-law}
-use Rattle.format.specs.Keys.{barsKey, wiresKey, wireKey, aroundKey}
+use Rattle.text.specs.Keys.{barsKey, wiresKey, wireKey, aroundKey}
 use Rattle.format.specs.Rings.{isRotation, linkRing}
 use Rattle.write.specs.Rings.{rotation}
 use Rattle.format.specs.Load.{Parsed, emptySheet, withEdge, withNexts, judged, ringLines, edgeLines, withCount, parse, loaded}

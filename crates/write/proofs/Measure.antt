@@ -14,7 +14,7 @@ use Rattle.text.specs.Written.{line}
 use Rattle.buffer.proofs.Writing.{sets-append, line-short}
 use Rattle.sheet.specs.declared.Sheet.{Sheet}
 use Rattle.sheet.specs.Darts.{tail, head, darts}
-use Rattle.format.specs.Keys.{barsKey, wiresKey, wireKey, aroundKey}
+use Rattle.text.specs.Keys.{barsKey, wiresKey, wireKey, aroundKey}
 use Rattle.write.specs.Rings.{rotation}
 use Rattle.write.specs.Texts.{edgeText, ringText, lowestDart}
 use Rattle.write.specs.Write.{sheetText}

@@ -7,7 +7,7 @@ use Rattle.counting.specs.Below.{lowestBelow}
 use Rattle.text.specs.Written.{line}
 use Rattle.sheet.specs.declared.Sheet.{Sheet}
 use Rattle.sheet.specs.Darts.{tail, head, touches, dartAt}
-use Rattle.format.specs.Keys.{wireKey, aroundKey}
+use Rattle.text.specs.Keys.{wireKey, aroundKey}
 use Rattle.write.specs.Rings.{rotation}
 
 abbrev pub edgeText : Sheet → ℕ → List ℕ

@@ -14,7 +14,7 @@ use Rattle.answers.specs.Refusals.{first, _if_, isAccepted}
 use Rattle.sheet.specs.Darts.{tail, head}
 use Rattle.sheet.specs.Check.{sound}
 use Rattle.write.specs.declared.Written.{Written}
-use Rattle.format.specs.Keys.{barsKey, wiresKey, wireKey, aroundKey}
+use Rattle.text.specs.Keys.{barsKey, wiresKey, wireKey, aroundKey}
 use Rattle.write.specs.Rings.{rotation}
 
 unfoldable pub sheetText : Sheet → List ℕ

@@ -6,7 +6,7 @@ use borrow.Author.Needs.{needs}
 use Rattle.counting.specs.Below.{joinBelow}
 use Rattle.text.specs.Written.{line}
 use Rattle.sheet.specs.declared.Sheet.{Sheet}
-use Rattle.format.specs.Keys.{barsKey, wiresKey}
+use Rattle.text.specs.Keys.{barsKey, wiresKey}
 use Rattle.write.specs.Texts.{edgeText}
 use Rattle.write.specs.Write.{sheetText}
 use Rattle.write.proofs.Measure.{Put, put-none, put-size, put-more, sheet-size}

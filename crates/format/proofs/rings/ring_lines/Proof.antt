@@ -3,7 +3,7 @@ use mathlib.Core.Path.{_≡_, refl, sym, _∙_}
 use native.Mathlib.Omega.{arith}
 use borrow.Author.Tests.{not-true, not-false}
 use Rattle.counting.specs.Counts.{count}
-use Rattle.format.specs.Keys.{aroundKey}
+use Rattle.text.specs.Keys.{aroundKey}
 use Rattle.format.proofs.Shapes.{Line, line-some}
 use lib.ListN.{getD, length}
 use Rattle.format.specs.Load.{ringLines}
