@@ -15,7 +15,8 @@ use Rattle.plane.proofs.Contact.{apart}
 use Rattle.plane.proofs.Spans.{short-extent, short-reaches}
 use Rattle.plane.proofs.Points.{no-contact}
 use Rattle.sheet.specs.declared.Sheet.{Sheet}
-use Rattle.sheet.specs.Darts.{tailDart, opposite, vertex}
+use Rattle.clauses.specs.Darts.{tailDart, opposite}
+use Rattle.sheet.specs.Darts.{vertex}
 use Rattle.sheet.specs.Sound.{Sound}
 use Rattle.sheet.specs.Check.{row, column}
 use Rattle.soundness.specs.Maps.{mapOf}

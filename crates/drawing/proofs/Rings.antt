@@ -8,7 +8,8 @@ use native.Mathlib.Omega.{arith}
 use Rattle.counting.specs.Orbits.{iter}
 use Rattle.counting.proofs.Iterate.{by-bool, clash, iter-shift}
 use Rattle.sheet.specs.declared.Sheet.{Sheet}
-use Rattle.sheet.specs.Darts.{isTail, next}
+use Rattle.clauses.specs.Darts.{isTail}
+use Rattle.sheet.specs.Darts.{next}
 use Rattle.drawing.specs.Clear.{Rising, Falling, Cycle}
 use Rattle.drawing.specs.Clear.Rising.{none as rising-none, one as rising-one, more as rising-more}
 use Rattle.drawing.specs.Clear.Falling.{none as falling-none, one as falling-one, more as falling-more}

@@ -11,7 +11,8 @@ use Rattle.counting.proofs.Iterate.{by-bool}
 use Rattle.plane.specs.Contact as plane
 use Rattle.plane.specs.Contact.{Short}
 use Rattle.sheet.specs.declared.Sheet.{Sheet}
-use Rattle.sheet.specs.Darts.{tail, head, darts, isTail, vertex, touches}
+use Rattle.clauses.specs.Darts.{isTail}
+use Rattle.sheet.specs.Darts.{tail, head, darts, vertex, touches}
 use Rattle.sheet.specs.Sound.{Sound}
 use Rattle.sheet.specs.Check.{column}
 use Rattle.soundness.specs.Maps.{mapOf}

@@ -6,7 +6,8 @@ use mathlib.Core.Logic.{_≢_, _⊎_, _↔_}
 use mathlib.Core.List.{List, [], _∷_, _++_, List·Memᴰ}
 use lib.ListN.{getD}
 use Rattle.sheet.specs.declared.Sheet.{Sheet}
-use Rattle.sheet.specs.Darts.{tail, head, darts, isTail, vertex, next}
+use Rattle.clauses.specs.Darts.{isTail}
+use Rattle.sheet.specs.Darts.{tail, head, darts, vertex, next}
 use Rattle.drawing.specs.declared.Drawing.{Drawing}
 use Rattle.drawing.specs.Points.{Point, OnVertex, OnEdge, TailEnd, HeadEnd, edgeOf}
 

@@ -9,7 +9,8 @@ use Rattle.sheet.specs.declared.Sheet.{Sheet}
 use Rattle.answers.specs.declared.Answer.{Answer}
 use Rattle.answers.specs.declared.Answer.the-variants.{NotSound}
 use Rattle.answers.specs.Refusals.{first, _if_, isAccepted}
-use Rattle.sheet.specs.Darts.{tail, head, tailDart, touches}
+use Rattle.clauses.specs.Darts.{tailDart}
+use Rattle.sheet.specs.Darts.{tail, head, touches}
 use Rattle.sheet.specs.Check.{sound, row, face, column}
 use Rattle.drawing.specs.declared.VertexSegment.{VertexSegment}
 use Rattle.drawing.specs.declared.EdgeSegment.{EdgeSegment}

@@ -9,7 +9,8 @@ use Rattle.sheet.specs.declared.Sheet.{Sheet}
 use Rattle.answers.specs.declared.Answer.{Answer}
 use Rattle.answers.specs.declared.Answer.the-variants.{NotSound, NotInSheet, Full, RootEdge, CornersApart, ClosesCircle, EdgeNeeded, VertexNeeded, BadLayout}
 use Rattle.answers.specs.Refusals.{first, _if_, isAccepted}
-use Rattle.sheet.specs.Darts.{tail, head, opposite, touches, dartAt}
+use Rattle.clauses.specs.Darts.{opposite}
+use Rattle.sheet.specs.Darts.{tail, head, touches, dartAt}
 use Rattle.sheet.specs.Check.{sound, face}
 use Rattle.edit.specs.declared.Edit.{Edit}
 use Rattle.edit.specs.declared.Edit.the-variants.{In, Run, Out, Off, Refused}

@@ -6,7 +6,8 @@ use lib.Dec.{eqb}
 use lib.ListN.{getD, set}
 use Rattle.counting.specs.Below.{lowestBelow}
 use Rattle.sheet.specs.declared.Sheet.{Sheet}
-use Rattle.sheet.specs.Darts.{tail, head, tailDart, headDart, dartAt}
+use Rattle.clauses.specs.Darts.{tailDart, headDart}
+use Rattle.sheet.specs.Darts.{tail, head, dartAt}
 
 -- x, but new where it is old
 unfoldable pub renamed : ℕ → ℕ → ℕ → ℕ

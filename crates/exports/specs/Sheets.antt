@@ -2,7 +2,7 @@
 use Prim.Native.Nat.{ℕ}
 use mathlib.Core.Path.{_≡_}
 use mathlib.Core.List.{List}
-use Rattle.sheet.specs.Arrays.{sheetOf}
+use Rattle.sheet.specs.Darts.{sheetOf}
 use Rattle.answers.specs.Answers.{refusalNumber}
 use Rattle.format.specs.declared.Loaded.{Loaded}
 use Rattle.write.specs.declared.Written.{Written}

@@ -7,7 +7,7 @@ ghost use Rattle.format.specs.Load.{load};
 ghost use Rattle.write.specs.Write.{writeSheet, bufferAfterSheet};
 ghost use Rattle.edit.specs.Lines.{readEdit};
 ghost use Rattle.exports.specs.Edits.{kindOf, numbersIn};
-ghost use Rattle.sheet.specs.Arrays.{sheetOf};
+ghost use Rattle.sheet.specs.Darts.{sheetOf};
 ghost use Rattle.exports.specs.Sheets.{Parts, Filled};
 use edit::Edit;
 use sheet::Sheet;

@@ -16,7 +16,7 @@ use Rattle.counting.proofs.Iterate.{total, by-bool}
 use Rattle.sheet.specs.Darts.{touches}
 use Rattle.counting.proofs.Below.{all-at, all-of}
 use Rattle.format.specs.Rings.{occurrences, allIn, isRotation}
-use Rattle.sheet.specs.Arrays.{sheetOf}
+use Rattle.sheet.specs.Darts.{sheetOf}
 use Rattle.format.specs.Steps.{touchesAt, fitsOf, fitFrom}
 
 -- ---- sums over the numbers below n

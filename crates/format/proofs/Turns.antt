@@ -31,7 +31,7 @@ use Rattle.text.specs.Keys.{wireKey, aroundKey}
 use Rattle.format.specs.Rings.{isRotation, linkFrom, linkRing}
 use Rattle.format.specs.Load.{Parsed, emptySheet, withEdge, withNexts, judged, ringLines, edgeLines, withCount, loaded}
 use Rattle.format.specs.Load.Parsed.{refused}
-use Rattle.sheet.specs.Arrays.{sheetOf}
+use Rattle.sheet.specs.Darts.{sheetOf}
 use Rattle.format.specs.Steps.{noNexts, countOf, Joint, afterEdges, EdgesRead, afterRings, touchesAt, dartOf, numbersOn, fitFrom, linkedFrom, linked}
 use Rattle.format.proofs.Occurrences.{rotation-if, rotation-length, rotation-fits}
 use Rattle.format.proofs.Shapes.{line-some, line-none}

@@ -12,7 +12,7 @@ use Rattle.counting.specs.Choice.{pick}
 use Rattle.text.specs.Reading.{Listed, numbersAt}
 use Rattle.text.specs.Reading.Listed.{listed, unlisted}
 use Rattle.text.specs.Shapes.{withOne}
-use Rattle.sheet.specs.Arrays.{sheetOf}
+use Rattle.sheet.specs.Darts.{sheetOf}
 use Rattle.answers.specs.declared.Answer.the-variants.{BadLayout, CountOutOfLimits}
 use Rattle.format.specs.declared.lines.Count.{Count}
 use Rattle.format.specs.declared.lines.Count.the-variants as counts

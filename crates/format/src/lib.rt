@@ -2,7 +2,7 @@
 ghost use mathlib.Core.Path.{_≡_};
 ghost use Prim.Native.Nat.{ℕ, _≤_, _<_};
 ghost use Rattle.format.specs.Load.{refused, emptySheet, judged, ringLines, edgeLines, loaded, load};
-ghost use Rattle.sheet.specs.Arrays.{sheetOf};
+ghost use Rattle.sheet.specs.Darts.{sheetOf};
 ghost use Rattle.format.specs.Steps.{noNexts, Joint};
 use answers::Answer;
 use lines::Count;

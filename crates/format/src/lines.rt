@@ -65,7 +65,7 @@ pub fn edge_lines(
         let values = read.values;
         let a = values[0];
         let b = values[1];
-        if !sheet::joins(n, a, b) {
+        if !clauses::joins(n, a, b) {
             return Step::Refused(Answer::BadEdge);
         }
         tails[k] = a;

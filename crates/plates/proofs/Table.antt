@@ -13,7 +13,8 @@ use Rattle.text.specs.Shapes.{withOne, withTwo, withFour, withSome}
 use Rattle.text.specs.Written.{decimal, separated, line}
 use Rattle.answers.specs.Answers.{refusalNumber}
 use Rattle.answers.specs.Refusals.{first, isAccepted}
-use Rattle.sheet.specs.Darts.{opposite, vertex, touches, dartAt}
+use Rattle.clauses.specs.Darts.{opposite}
+use Rattle.sheet.specs.Darts.{vertex, touches, dartAt}
 use Rattle.sheet.specs.Fresh.{freshSheet}
 use Rattle.sheet.specs.Check.{sound, withinLimits, joined, inRings, unusedZero, rooted, acyclic, rowLevels, poles, incoming, outgoing, planar, faceTable, columnLevels, faceFrom, faceTo, edgeTable, judge}
 use Rattle.format.specs.Rings.{occurrences, allIn, isRotation, linkFrom}

@@ -4,7 +4,8 @@ use Rattle.counting.specs.Below.{allBelow, someBelow, tabulate}
 use Rattle.orbits.specs.Tables.{traced, isPermutation, permutesFrom, traceFrom, walkFrom, unnumberedBelow}
 use Rattle.digraph.specs.Digraph.{flat}
 use Rattle.digraph.specs.Relaxed.{joins, withinOf, raised, relaxed, rounds, climbs, levelsOf, answer}
-use Rattle.sheet.specs.Darts.{opposite, vertex}
+use Rattle.clauses.specs.Darts.{opposite}
+use Rattle.sheet.specs.Darts.{vertex}
 use Rattle.sheet.specs.Check.{sound, withinLimits, joined, inRings, unusedZero, rooted, acyclic, rowLevels, poles, incoming, outgoing, planar, faceTable}
 use Rattle.plates.specs.Torus.{torus, TorusFound}
 

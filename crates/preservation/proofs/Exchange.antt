@@ -11,7 +11,8 @@ use Rattle.surgery.specs.Edits.{Grown}
 use Rattle.surgery.specs.Renumber.{renumber, exchange}
 use Rattle.surgery.proofs.Renumber.{renumber-plane, exchange-bijection, exchange-first, exchange-second, exchange-other}
 use Rattle.sheet.specs.declared.Sheet.{Sheet}
-use Rattle.sheet.specs.Darts.{tailDart, headDart, darts, isTail, opposite}
+use Rattle.clauses.specs.Darts.{tailDart, headDart, isTail, opposite}
+use Rattle.sheet.specs.Darts.{darts}
 use Rattle.sheet.specs.Sound.{Sound}
 use Rattle.soundness.specs.Maps.{mapOf}
 use Rattle.soundness.proofs.Darts.{dart, dart-kind, dart-edge, dart-below, each-dart, by-dart, dart-opposite}

@@ -5,7 +5,8 @@ use mathlib.Core.Bool.{true, false}
 use native.Mathlib.Omega.{arith}
 use Rattle.plane.specs.Map.{Plane}
 use Rattle.sheet.specs.declared.Sheet.{Sheet}
-use Rattle.sheet.specs.Darts.{tail, head, tailDart, opposite, vertex}
+use Rattle.clauses.specs.Darts.{tailDart, opposite}
+use Rattle.sheet.specs.Darts.{tail, head, vertex}
 use Rattle.sheet.specs.Sound.{Joins, Unused, Sound}
 use Rattle.soundness.proofs.Darts.{dart-kind, dart-below, dart-opposite, dart-vertex}
 use Rattle.preservation.specs.Maps.{mapWith}

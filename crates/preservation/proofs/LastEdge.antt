@@ -11,7 +11,8 @@ use lib.Seq.{getD-set-same, getD-set-other}
 use Rattle.surgery.specs.Renumber.{exchange}
 use Rattle.surgery.proofs.Renumber.{exchange-first, exchange-second, exchange-other}
 use Rattle.sheet.specs.declared.Sheet.{Sheet}
-use Rattle.sheet.specs.Darts.{Sized, tail, head, tailDart, headDart, vertex, next}
+use Rattle.clauses.specs.Darts.{tailDart, headDart}
+use Rattle.sheet.specs.Darts.{Sized, tail, head, vertex, next}
 use Rattle.sheet.specs.Sound.{Unused}
 use Rattle.soundness.proofs.Darts.{dart, each-dart, by-dart, dart-vertex}
 use Rattle.edit.specs.Changes.{renamed, replaceDart, lastEdgeTo}

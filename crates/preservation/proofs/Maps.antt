@@ -11,7 +11,8 @@ use Rattle.plane.specs.Map.{Plane}
 use Rattle.surgery.specs.Edits.{Grown}
 use Rattle.surgery.specs.Statements.{Walks, Rises}
 use Rattle.sheet.specs.declared.Sheet.{Sheet}
-use Rattle.sheet.specs.Darts.{tail, head, headDart, darts, isTail, opposite, vertex, next}
+use Rattle.clauses.specs.Darts.{headDart, isTail, opposite}
+use Rattle.sheet.specs.Darts.{tail, head, darts, vertex, next}
 use Rattle.sheet.specs.Sound.{Ring, Leads, Incoming, Outgoing, Sound}
 use Rattle.sheet.specs.Check.{face, faceCount}
 use Rattle.soundness.proofs.Darts.{dart, dart-kind, dart-below, dart-is, dart-opposite, dart-vertex, edge-below}

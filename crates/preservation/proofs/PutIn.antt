@@ -14,7 +14,8 @@ use Rattle.surgery.specs.Edits.{Subdivided}
 use Rattle.surgery.proofs.Grow.{head-not-alone}
 use Rattle.surgery.proofs.Subdivide.{subdivided-plane, subdivided-rises}
 use Rattle.sheet.specs.declared.Sheet.{Sheet}
-use Rattle.sheet.specs.Darts.{Sized, tail, head, tailDart, headDart, darts, isTail, opposite, vertex, next}
+use Rattle.clauses.specs.Darts.{tailDart, headDart, isTail, opposite}
+use Rattle.sheet.specs.Darts.{Sized, tail, head, darts, vertex, next}
 use Rattle.sheet.specs.Sound.{Joins, Unused, Sound}
 use Rattle.sheet.specs.Check.{sound, row}
 use Rattle.soundness.specs.Maps.{mapOf}

@@ -18,7 +18,8 @@ use Rattle.surgery.proofs.Add.{added-plane, added-rises}
 use Rattle.answers.specs.declared.Answer.the-variants.{NotSound, NotInSheet, CornersApart, ClosesCircle, Full}
 use Rattle.answers.specs.Answers.{refusalNumber}
 use Rattle.sheet.specs.declared.Sheet.{Sheet}
-use Rattle.sheet.specs.Darts.{Sized, tail, head, tailDart, headDart, darts, isTail, opposite, vertex, touches, dartAt, next}
+use Rattle.clauses.specs.Darts.{tailDart, headDart, isTail, opposite}
+use Rattle.sheet.specs.Darts.{Sized, tail, head, darts, vertex, touches, dartAt, next}
 use Rattle.sheet.specs.Sound.{Joins, Unused, Leads, Sound}
 use Rattle.sheet.specs.Check.{sound, row, face}
 use Rattle.soundness.specs.Maps.{mapOf}

@@ -15,7 +15,8 @@ use Rattle.surgery.specs.Edits.{Deleted}
 use Rattle.surgery.specs.Statements.{Rises}
 use Rattle.surgery.proofs.Delete.{deleted-plane, deleted-rises}
 use Rattle.sheet.specs.declared.Sheet.{Sheet}
-use Rattle.sheet.specs.Darts.{Sized, tail, head, tailDart, headDart, darts, isTail, vertex, next}
+use Rattle.clauses.specs.Darts.{tailDart, headDart, isTail}
+use Rattle.sheet.specs.Darts.{Sized, tail, head, darts, vertex, next}
 use Rattle.sheet.specs.Sound.{Unused, Sound}
 use Rattle.sheet.specs.Check.{sound, row}
 use Rattle.soundness.specs.Maps.{mapOf}

@@ -19,7 +19,8 @@ use Rattle.surgery.proofs.Grow.{not-alone, head-not-alone}
 use Rattle.surgery.proofs.Renumber.{exchange-bijection, exchange-first, exchange-second, exchange-other}
 use Rattle.surgery.proofs.Smooth.{smoothed-plane, smoothed-rises}
 use Rattle.sheet.specs.declared.Sheet.{Sheet}
-use Rattle.sheet.specs.Darts.{Sized, tail, head, tailDart, headDart, darts, isTail, vertex, next}
+use Rattle.clauses.specs.Darts.{tailDart, headDart, isTail}
+use Rattle.sheet.specs.Darts.{Sized, tail, head, darts, vertex, next}
 use Rattle.sheet.specs.Sound.{Unused, Sound}
 use Rattle.sheet.specs.Check.{sound, row}
 use Rattle.soundness.specs.Maps.{mapOf}

@@ -2,7 +2,8 @@
 use Prim.Native.Nat.{ℕ, _≤_, _<_}
 use Rattle.plane.specs.Map.{Map}
 use Rattle.sheet.specs.declared.Sheet.{Sheet}
-use Rattle.sheet.specs.Darts.{darts, opposite, next, isTail, vertex}
+use Rattle.clauses.specs.Darts.{opposite, isTail}
+use Rattle.sheet.specs.Darts.{darts, next, vertex}
 use Rattle.sheet.specs.Sound.{Joins, Unused}
 use Rattle.sheet.specs.Check.{faceCount, face}
 

@@ -1,5 +1,2 @@
-pub mod Below
-pub mod Tables
 pub mod Rings
-pub mod Marks
 pub mod Clauses

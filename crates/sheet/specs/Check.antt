@@ -13,7 +13,8 @@ use Rattle.sheet.specs.declared.Sheet.{Sheet}
 use Rattle.answers.specs.declared.Answer.{Answer}
 use Rattle.answers.specs.declared.Answer.the-variants.{BadRoot, Cyclic, BadPoles, NotPlanar}
 use Rattle.answers.specs.Refusals.{first, _if_}
-use Rattle.sheet.specs.Darts.{tail, head, tailDart, headDart, darts, vertex, next, walk}
+use Rattle.clauses.specs.Darts.{tailDart, headDart}
+use Rattle.sheet.specs.Darts.{tail, head, darts, vertex, next, walk}
 
 -- n and m are within limits
 unfoldable pub withinLimits : Sheet → Bool

@@ -1,9 +1,11 @@
 -- The sheet record read as a directed graph with a clockwise order of the darts at each vertex. (Document 01's bar is a vertex, its wire an edge, its end a dart.)
-use Prim.Native.Nat.{ℕ, _+_, _-_, _*_, _/_, _%_}
+use Prim.Native.Nat.{ℕ, _*_, _/_}
 use mathlib.Core.Path.{_≡_}
 use mathlib.Core.Bool.{Bool, cond, _||_}
+use mathlib.Core.List.{List}
 use lib.Dec.{eqb}
 use lib.ListN.{getD, length}
+use Rattle.clauses.specs.Darts.{tailDart, headDart, isTail, opposite}
 use Rattle.sheet.specs.declared.Sheet.{Sheet}
 
 -- what the record's arrays have by their type
@@ -12,6 +14,10 @@ pub record Sized (s : Sheet) : Type 0 where
   pub heads : length (s .heads) ≡ 256
   pub nexts : length (s .nexts) ≡ 512
 
+-- a sheet from its parts
+abbrev pub sheetOf : ℕ → ℕ → List ℕ → List ℕ → List ℕ → Sheet
+sheetOf n m tails heads nexts = record { vertices = n; edges = m; tails = tails; heads = heads; nexts = nexts }
+
 -- the tail bar and the head bar of wire k
 abbrev pub tail : Sheet → ℕ → ℕ
 tail s k = getD (s .tails) k 0
@@ -19,23 +25,8 @@ tail s k = getD (s .tails) k 0
 abbrev pub head : Sheet → ℕ → ℕ
 head s k = getD (s .heads) k 0
 
--- wire k has two ends: end 2k at its tail, end 2k + 1 at its head
-abbrev pub tailDart : ℕ → ℕ
-tailDart k = 2 * k
-
-abbrev pub headDart : ℕ → ℕ
-headDart k = 2 * k + 1
-
 abbrev pub darts : Sheet → ℕ
 darts s = 2 * s .edges
-
--- whether an end is its wire's tail end
-abbrev pub isTail : ℕ → Bool
-isTail d = eqb (d % 2) 0
-
--- the other end of the same wire
-unfoldable pub opposite : ℕ → ℕ
-opposite d = cond (isTail d) (d + 1) (d - 1)
 
 -- the bar of an end
 unfoldable pub vertex : Sheet → ℕ → ℕ

@@ -4,7 +4,7 @@ use mathlib.Core.Path.{_≡_}
 use mathlib.Core.Logic.{_≢_}
 use Rattle.counting.specs.Paths.{Longest}
 use Rattle.sheet.specs.declared.Sheet.{Sheet}
-use Rattle.sheet.specs.Darts.{tailDart, headDart}
+use Rattle.clauses.specs.Darts.{tailDart, headDart}
 use Rattle.sheet.specs.Sound.{Leads}
 
 -- Row of a bar: the most wires on a directed path from bar 0 to it.

@@ -4,4 +4,3 @@ pub mod Sound
 pub mod Levels
 pub mod Check
 pub mod Findings
-pub mod Arrays

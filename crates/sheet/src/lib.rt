@@ -1,17 +1,18 @@
 // The sheet record, the fresh sheet, and the check of soundness, in time linear in the sheet.
 ghost use mathlib.Core.Path.{_≡_};
-ghost use mathlib.Core.Bool.{not, _&&_, _||_};
-ghost use Prim.Native.Nat.{_*_, _≤_, _<_};
-ghost use lib.Dec.{eqb, ltb};
-ghost use lib.ListN.{length};
-ghost use Rattle.counting.specs.Below.{allBelow, tabulate};
+ghost use Rattle.sheet.specs.Darts.{sheetOf};
 ghost use Rattle.sheet.specs.Fresh.{freshSheet};
 ghost use Rattle.sheet.specs.Check.{sound, judge};
 ghost use Rattle.sheet.specs.Findings.{refused, structured, judgedOf, findingsOf};
-ghost use Rattle.sheet.specs.Arrays.{sheetOf, limitsOf, joinsAt, zeroAt, unusedOf, Ends, dartTable, vertexOf, walkOf, ringAt, Readable, ringsOf, endOf, poleAt, polesOf, rootedOf};
 use answers::Answer;
 use answers::is_accepted;
-use counting::wide;
+use clauses::all_join;
+use clauses::has_poles;
+use clauses::in_rings;
+use clauses::is_rooted;
+use clauses::unused_zero;
+use clauses::walks;
+use clauses::within_limits;
 
 // A sheet by value. Edge k (document 01's wire k) goes from vertex (bar) tails[k] to heads[k]. Dart 2k (end 2k)
 // is its end at the tail, dart 2k + 1 its end at the head; nexts[d] is the next dart clockwise at the same vertex.
@@ -52,9 +53,6 @@ pub struct Findings {
     pub count: usize,
 }
 
-// Stands for the ring of a vertex of which no dart was seen.
-const NONE: u16 = 512;
-
 // A refusal: nothing is found.
 fn refuse(answer: Answer) -> Findings
     ensures { λ r. ⌜ r ≡ refused answer ⌝ }
@@ -65,203 +63,6 @@ fn refuse(answer: Answer) -> Findings
         faces: [0u16; 512],
         count: 0,
     }
-}
-
-// Whether the counts of vertices and edges are within limits.
-fn within_limits(n: usize, m: usize) -> bool
-    ensures { λ r. ⌜ r ≡ limitsOf n m ⌝ }
-{
-    if n < 2 {
-        return false;
-    }
-    if 128 < n {
-        return false;
-    }
-    if m < 2 {
-        return false;
-    }
-    m <= 256
-}
-
-// Whether an edge joins two different vertices of n.
-pub fn joins(n: usize, tail: u16, head: u16) -> bool
-    ensures { λ r. ⌜ r ≡ (ltb tail n && ltb head n && not (eqb tail head)) ⌝ }
-{
-    if n <= wide(tail) {
-        return false;
-    }
-    if n <= wide(head) {
-        return false;
-    }
-    tail != head
-}
-
-// Whether each of m edges joins two different vertices of n.
-fn all_join(n: usize, m: usize, tails: &[u16; 256], heads: &[u16; 256]) -> bool
-    requires { ⌜ m ≤ 256 ⌝ }
-    ensures { λ r. ⌜ r ≡ allBelow (joinsAt n (now (tails .entry)) (now (heads .entry))) m ⌝ }
-{
-    let mut k = 0;
-    while k < m {
-        if !joins(n, tails[k], heads[k]) {
-            return false;
-        }
-        k += 1;
-    }
-    true
-}
-
-// Whether the entries from `from` on are 0.
-fn zero_from(from: usize, table: &[u16]) -> bool
-    requires { ⌜ from ≤ length (now table) ⌝ }
-    ensures { λ r. ⌜ r ≡ allBelow (zeroAt from (now (table .entry))) (length (now (table .entry))) ⌝ }
-{
-    let mut k = from;
-    while k < table.len() {
-        if table[k] != 0 {
-            return false;
-        }
-        k += 1;
-    }
-    true
-}
-
-// Whether the entries past m edges are 0.
-fn unused_zero(m: usize, tails: &[u16; 256], heads: &[u16; 256], nexts: &[u16; 512]) -> bool
-    requires { ⌜ m ≤ 256 ⌝ }
-    ensures { λ r. ⌜ r ≡ unusedOf m (now (tails .entry)) (now (heads .entry)) (now (nexts .entry)) ⌝ }
-{
-    if !zero_from(m, tails) {
-        return false;
-    }
-    if !zero_from(m, heads) {
-        return false;
-    }
-    zero_from(2 * m, nexts)
-}
-
-// The vertex of each dart of m edges.
-fn places(m: usize, tails: &[u16; 256], heads: &[u16; 256]) -> [u16; 512]
-    requires { ⌜ m ≤ 256 ⌝ }
-    ensures { λ r. ⌜ r ≡ dartTable (vertexOf (now (tails .entry)) (now (heads .entry))) (2 * m) ⌝ }
-{
-    let mut at = [0u16; 512];
-    let mut k = 0;
-    while k < m {
-        at[2 * k] = tails[k];
-        at[2 * k + 1] = heads[k];
-        k += 1;
-    }
-    at
-}
-
-// The dart that the walk takes after each dart of m edges.
-fn walks(m: usize, nexts: &[u16; 512]) -> [u16; 512]
-    requires { ⌜ m ≤ 256 ⌝ }
-    ensures { λ r. ⌜ r ≡ dartTable (walkOf (now (nexts .entry))) (2 * m) ⌝ }
-{
-    let mut walk = [0u16; 512];
-    let mut k = 0;
-    while k < m {
-        walk[2 * k] = nexts[2 * k + 1];
-        walk[2 * k + 1] = nexts[2 * k];
-        k += 1;
-    }
-    walk
-}
-
-// Whether `ring` goes with what was seen at its vertex before.
-fn agrees(seen: u16, ring: u16) -> bool
-    ensures { λ r. ⌜ r ≡ (eqb seen 512 || eqb seen ring) ⌝ }
-{
-    (seen == NONE) | (seen == ring)
-}
-
-// Whether each dart's next dart is at the same vertex, and all darts of a vertex are in one ring.
-fn one_ring_each(darts: usize, at: &[u16; 512], nexts: &[u16; 512], ring: &[u16; 512]) -> bool
-    requires { ⌜ Readable darts (now at) (now nexts) (now ring) ⌝ }
-    ensures { λ r. ⌜ r ≡ allBelow (ringAt darts (now (at .entry)) (now (nexts .entry)) (now (ring .entry))) darts ⌝ }
-{
-    let mut seen = [NONE; 128];
-    let mut good = true;
-    let mut d = 0;
-    while d < darts {
-        let v = wide(at[d]);
-        let next = wide(nexts[d]);
-        let there = wide(at[next]);
-        let here = ring[d];
-        good = good & (there == v) & agrees(seen[v], here);
-        seen[v] = here;
-        d += 1;
-    }
-    good
-}
-
-// Whether the next-darts of each vertex form one ring of exactly its darts.
-fn in_rings(m: usize, tails: &[u16; 256], heads: &[u16; 256], nexts: &[u16; 512]) -> bool
-    requires { ⌜ Ends 128 m (now tails) × Ends 128 m (now heads) ⌝ }
-    ensures { λ r. ⌜ r ≡ ringsOf (2 * m) (now (tails .entry)) (now (heads .entry)) (now (nexts .entry)) ⌝ }
-{
-    let darts = 2 * m;
-    if !orbits::permutes(darts, nexts) {
-        return false;
-    }
-    let at = places(m, tails, heads);
-    let traced = orbits::trace(darts, nexts);
-    let ring = traced.orbit;
-    one_ring_each(darts, &at, nexts, &ring)
-}
-
-// Marks each vertex that is among the first m ends.
-fn marked(m: usize, ends: &[u16; 256]) -> [bool; 256]
-    requires { ⌜ Ends 256 m (now ends) ⌝ }
-    ensures { λ r. ⌜ r ≡ tabulate (endOf (now (ends .entry)) m) 256 ⌝ }
-{
-    let mut marks = [false; 256];
-    let mut k = 0;
-    while k < m {
-        let v = wide(ends[k]);
-        marks[v] = true;
-        k += 1;
-    }
-    marks
-}
-
-// Whether `pole` is the only vertex of n that is not among the first m ends.
-fn only_pole(n: usize, m: usize, ends: &[u16; 256], pole: usize) -> bool
-    requires { ⌜ (n ≤ 256) × Ends 256 m (now ends) ⌝ }
-    ensures { λ r. ⌜ r ≡ allBelow (poleAt m (now (ends .entry)) pole) n ⌝ }
-{
-    let marks = marked(m, ends);
-    let mut v = 0;
-    while v < n {
-        if marks[v] == (v == pole) {
-            return false;
-        }
-        v += 1;
-    }
-    true
-}
-
-// Whether vertex 0 is the only one that is no head, and vertex 1 the only one that is no tail.
-fn has_poles(n: usize, m: usize, tails: &[u16; 256], heads: &[u16; 256]) -> bool
-    requires { ⌜ (n ≤ 256) × Ends 256 m (now tails) × Ends 256 m (now heads) ⌝ }
-    ensures { λ r. ⌜ r ≡ polesOf n m (now (tails .entry)) (now (heads .entry)) ⌝ }
-{
-    if !only_pole(n, m, heads, 0) {
-        return false;
-    }
-    only_pole(n, m, tails, 1)
-}
-
-// Whether edge 0 goes from vertex 0 to vertex 1.
-fn is_rooted(tails: &[u16; 256], heads: &[u16; 256]) -> bool
-    ensures { λ r. ⌜ r ≡ rootedOf (now (tails .entry)) (now (heads .entry)) ⌝ }
-{
-    if tails[0] != 0 {
-        return false;
-    }
-    heads[0] == 1
 }
 
 // Whether the record meets the first four clauses of soundness: limits, edges, rings, unused entries.

@@ -14,7 +14,7 @@ use Rattle.plane.specs.Columns as plane
 use Rattle.plane.specs.Columns.FaceStep.{across, over-root}
 use Rattle.plane.proofs.Columns.{face-graph, column-laws}
 use Rattle.sheet.specs.declared.Sheet.{Sheet}
-use Rattle.sheet.specs.Darts.{tailDart, headDart, opposite}
+use Rattle.clauses.specs.Darts.{tailDart, headDart, opposite}
 use Rattle.sheet.specs.Sound.{Sound, Faces}
 use Rattle.sheet.specs.Levels.{FaceLeads, Column, leftFace, rightFace}
 use Rattle.sheet.specs.Levels.FaceLeads.{across as left-to-right, root as right-to-left}

@@ -6,7 +6,8 @@ use native.Mathlib.Omega.{arith}
 use borrow.Author.Tests.{eqb-true, eqb-false, eq-eqb, ne-eqb}
 use Rattle.counting.proofs.Iterate.{by-bool}
 use Rattle.sheet.specs.declared.Sheet.{Sheet}
-use Rattle.sheet.specs.Darts.{tail, head, tailDart, headDart, darts, isTail, opposite, vertex}
+use Rattle.clauses.specs.Darts.{tailDart, headDart, isTail, opposite}
+use Rattle.sheet.specs.Darts.{tail, head, darts, vertex}
 
 -- the dart of edge k at its tail, or at its head
 abbrev pub dart : Bool → ℕ → ℕ

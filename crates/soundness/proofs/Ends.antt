@@ -9,7 +9,8 @@ use Rattle.counting.proofs.Iterate.{by-bool}
 use Rattle.soundness.proofs.Tests.{eq-says, or-says}
 use Rattle.soundness.proofs.Darts.{dart, dart-edge, dart-below, dart-vertex, by-dart}
 use Rattle.sheet.specs.declared.Sheet.{Sheet}
-use Rattle.sheet.specs.Darts.{tail, head, darts, isTail, vertex, touches, dartAt}
+use Rattle.clauses.specs.Darts.{isTail}
+use Rattle.sheet.specs.Darts.{tail, head, darts, vertex, touches, dartAt}
 use Rattle.sheet.specs.Sound.{Joins}
 
 -- d is an end at bar v

@@ -10,7 +10,8 @@ use Rattle.counting.proofs.Orbits.{orbits-agree, number-unique}
 use Rattle.orbits.specs.Meaning.{entries}
 use Rattle.orbits.proofs.Numbering.{traced-law}
 use Rattle.sheet.specs.declared.Sheet.{Sheet}
-use Rattle.sheet.specs.Darts.{darts, opposite, walk}
+use Rattle.clauses.specs.Darts.{opposite}
+use Rattle.sheet.specs.Darts.{darts, walk}
 use Rattle.sheet.specs.Sound.{Faces, Euler}
 use Rattle.sheet.specs.Check.{faceTable, face, faceCount, planar}
 use Rattle.counting.proofs.Below.{getD-tabulated}

@@ -5,7 +5,8 @@ use Rattle.counting.specs.Below.{allBelow, someBelow, tabulate}
 use Rattle.orbits.specs.Tables.{traced, traceFrom, walkFrom, unnumberedBelow, isPermutation, permutesFrom}
 use Rattle.digraph.specs.Digraph.{flat}
 use Rattle.digraph.specs.Relaxed.{levelsOf, rounds, relaxed, raised, climbs, joins, withinOf, answer}
-use Rattle.sheet.specs.Darts.{Sized, vertex, opposite}
+use Rattle.clauses.specs.Darts.{opposite}
+use Rattle.sheet.specs.Darts.{Sized, vertex}
 use Rattle.sheet.specs.Fresh.{freshSheet}
 use Rattle.sheet.specs.Check.{sound, withinLimits, joined, inRings, unusedZero, rooted, acyclic, rowLevels, poles, incoming, outgoing, planar, faceTable}
 use Rattle.soundness.specs.Laws.{Fresh-Law}

@@ -7,7 +7,8 @@ use native.Mathlib.Omega.{arith}
 use Rattle.counting.proofs.Iterate.{clash, either}
 use Rattle.plane.specs.Map.{Bipolar, Plane}
 use Rattle.sheet.specs.declared.Sheet.{Sheet}
-use Rattle.sheet.specs.Darts.{tail, head, darts, isTail, opposite, vertex}
+use Rattle.clauses.specs.Darts.{isTail, opposite}
+use Rattle.sheet.specs.Darts.{tail, head, darts, vertex}
 use Rattle.sheet.specs.Sound.{Sound}
 use Rattle.sheet.specs.Check.{row}
 use Rattle.soundness.specs.Maps.{mapOf}

@@ -1,7 +1,8 @@
 -- A sheet read as a map of darts.
 use Rattle.plane.specs.Map.{Map}
 use Rattle.sheet.specs.declared.Sheet.{Sheet}
-use Rattle.sheet.specs.Darts.{darts, opposite, next, isTail, vertex}
+use Rattle.clauses.specs.Darts.{opposite, isTail}
+use Rattle.sheet.specs.Darts.{darts, next, vertex}
 use Rattle.sheet.specs.Check.{faceCount, face, row}
 
 abbrev pub mapOf : Sheet → Map

@@ -5,7 +5,7 @@ use native.Mathlib.Omega.{arith}
 use borrow.Author.Tests.{not-true, not-false}
 use Rattle.answers.specs.declared.Answer.the-variants.{BadLayout, BadEdge}
 use Rattle.format.specs.Load.{edgeLines}
-use Rattle.sheet.specs.Arrays.{sheetOf}
+use Rattle.sheet.specs.Darts.{sheetOf}
 use Rattle.format.specs.Steps.{noNexts, Joint}
 use Rattle.format.proofs.Turns.{edges-refused, edges-next, edges-over, edge-line-bad, edge-bad, edge-good, joint-more}
 use borrow.Author.Needs.{needs}

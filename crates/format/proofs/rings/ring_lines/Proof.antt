@@ -7,7 +7,7 @@ use Rattle.text.specs.Keys.{aroundKey}
 use Rattle.format.proofs.Shapes.{Line, line-some}
 use lib.ListN.{getD, length}
 use Rattle.format.specs.Load.{ringLines}
-use Rattle.sheet.specs.Arrays.{sheetOf}
+use Rattle.sheet.specs.Darts.{sheetOf}
 use Rattle.format.specs.Steps.{touchesAt, afterRings}
 use Rattle.format.proofs.Turns.{joint-wider, zeros-at, rings-over, ring-line-bad, ring-line-size, ring-line-unfit, ring-line-good}
 use borrow.Author.Needs.{needs}
