@@ -1,7 +1,7 @@
 -- Laws of `count`, and the pigeonhole principle for a function onto. Assumes nothing.
 use mathlib.Core.Path.{_≡_, refl, sym, ap, _∙_}
 use mathlib.Core.Logic.{_≢_, by-cases}
-use mathlib.Core.Bool.{Bool, true, false, not, _&&_, false≢true}
+use mathlib.Core.Bool.{Bool, true, false, not, _&&_, true≢false, false≢true}
 use Prim.Native.Nat.{ℕ, zero, suc, _+_, _≤_, _<_, zero-le}
 use native.Mathlib.Nat.{le-of-eq}
 use native.Mathlib.Decide.{ℕ-discrete, decLt}
@@ -180,3 +180,38 @@ onto-injective g p N q n s few d e dN pd eN pe same = go (ℕ-discrete d e)
     go : Dec (d ≡ e) → d ≡ e
     go (yes h) = h
     go (no ne) = absurd (omega (arith, onto-count g (without p d) N q n (spared ne), count-without p N d dN pd))
+
+-- ---- a count against n
+
+module _ (p : ℕ → Bool) (n : ℕ) where
+  pub count-le : count p n ≤ n
+  count-le = omega (arith, onto-count (λ v. v) all n p n (λ v h t. (v, h, refl, refl)), count-all n)
+
+  -- a number that fails is not counted
+  pub count-less : (d : ℕ) → d < n → p d ≡ false → count p n < n
+  count-less d h f = omega (arith, onto-count (λ v. v) (without all d) n p n there, count-without all n d h refl, count-all n)
+    where
+      there : Onto (λ v. v) (without all d) n p n
+      there v l t = (v, l, without-other all (λ e. true≢false (sym t ∙ ap p e ∙ f)), refl)
+
+  -- all numbers that pass are n only where none fails
+  pub count-full : n ≤ count p n → (d : ℕ) → d < n → p d ≡ true
+  count-full h d l = go (p d) refl
+    where
+      go : (b : Bool) → p d ≡ b → b ≡ true
+      go true e = refl
+      go false e = absurd (omega (arith, count-less d l e))
+
+  -- a number that failed already, taken out
+  pub count-absent : (d : ℕ) → p d ≡ false → count (without p d) n ≡ count p n
+  count-absent d f = count-agree (without p d) p n (λ e _. by-cases (ℕ-discrete e d) (λ q. rw q (without-same p d ∙ sym f)) (λ q. without-other p q))
+
+-- where not all numbers pass, one fails
+pub count-gap : (p : ℕ → Bool) (n : ℕ) → count p n < n → (d : ℕ) × (d < n) × (p d ≡ false)
+unfolding count
+count-gap p zero h = absurd (omega arith)
+count-gap p (suc n) h = go (p n) refl h (count-gap p n)
+  where
+    go : (b : Bool) → p n ≡ b → bit b + count p n < suc n → (count p n < n → (d : ℕ) × (d < n) × (p d ≡ false)) → (d : ℕ) × (d < suc n) × (p d ≡ false)
+    go true e l ih = let (d, b, f) = ih (omega arith) in (d, omega arith, f)
+    go false e l ih = (n, omega arith, e)

@@ -1,23 +1,36 @@
--- The lists of edges, built from the last edge down. Assumes nothing.
+-- The lists of edges by one of their ends, built from the last edge down. Assumes nothing.
 use mathlib.Core.Path.{_≡_, refl, sym, ap, _∙_}
-use mathlib.Core.Logic.{_≢_, ⊎-elim, by-cases}
+use mathlib.Core.Logic.{_≢_, _⊎_, inl, inr, ⊎-elim, by-cases}
 use mathlib.Core.List.{List}
 use Prim.Native.Nat.{ℕ, suc, _≤_, _<_}
 use native.Mathlib.Decide.{ℕ-discrete}
 use native.Mathlib.Omega.{arith}
 use lib.ListN.{getD, set, length-set, replicate, getD-replicate}
 use lib.Seq.{getD-set-same, getD-set-other}
-use Rattle.digraph.specs.Visits.{Listed, Chained}
-use Rattle.digraph.specs.Visits.Listed.{head, later}
-use Rattle.digraph.proofs.Visits.{list-in, split}
+use Rattle.digraph.specs.Chains.{Listed, Chained}
+use Rattle.digraph.specs.Chains.Listed.{head, later}
+
+module _ {edges : ℕ} {after : List ℕ} where
+  pub listed-in : {j k : ℕ} → Listed edges after j k → j < edges
+  listed-in (head h) = h
+  listed-in (later h e l) = listed-in l
+
+  pub list-in : {j k : ℕ} → Listed edges after j k → k < edges
+  list-in (head h) = h
+  list-in (later h e l) = h
+
+  -- an edge of a list is its first one, or on the rest
+  pub split : {j k i : ℕ} → Listed edges after j k → getD after k 0 ≡ i → (j ≡ k) ⊎ Listed edges after j i
+  split (head h) q = inl refl
+  split (later h e l) q = inr (rw (sym q ∙ e) l)
 
 -- before the first edge
-pub unchained : (edges : ℕ) (to : List ℕ) → edges ≤ 256 → Chained edges edges to (replicate 256 256) (replicate 256 256)
-unchained edges to few = record {
+pub unchained : (edges : ℕ) (ends : List ℕ) → edges ≤ 256 → Chained edges edges ends (replicate 256 256) (replicate 256 256)
+unchained edges ends few = record {
   size-first = refl;
   size-after = refl;
   listed = λ j l b. absurd (omega arith);
-  target = λ v j b l. absurd (omega (arith, list-in l, getD-replicate {A = ℕ} 256 v 256 0 b));
+  at-end = λ v j b l. absurd (omega (arith, list-in l, getD-replicate {A = ℕ} 256 v 256 0 b));
   rising = λ k l b. absurd (omega arith);
   high = λ v b. omega (arith, getD-replicate {A = ℕ} 256 v 256 0 b);
 }
@@ -28,9 +41,9 @@ module _ {edges k : ℕ} {x y : List ℕ} (agree : (i : ℕ) → k < i → getD 
   same-list b (head h) = head h
   same-list b (later {k = m} h e l) = later h (sym (agree m b) ∙ e) (same-list (omega (arith, rising m b h)) l)
 
--- one edge more, k, into v
-module _ {edges k : ℕ} {to first after : List ℕ} (C : Chained (suc k) edges to first after) (in-k : k < edges) (few : edges ≤ 256)
-    (v : ℕ) (ev : v ≡ getD to k 0) (in-v : v < 256) where
+-- one edge more, k, at v
+module _ {edges k : ℕ} {ends first after : List ℕ} (C : Chained (suc k) edges ends first after) (in-k : k < edges) (few : edges ≤ 256)
+    (v : ℕ) (ev : v ≡ getD ends k 0) (in-v : v < 256) where
   abbrev first′ : List ℕ
   first′ = set first v k
 
@@ -59,24 +72,24 @@ module _ {edges k : ℕ} {to first after : List ℕ} (C : Chained (suc k) edges 
   on-v : {j : ℕ} → Listed edges after′ j k → (w : ℕ) → w ≡ v → Listed edges after′ j (getD first′ w 0)
   on-v l w e = rw (e, at-first) l
 
-  pub chained-more : ((j : ℕ) → j < edges → getD to j 0 < 256) → Chained k edges to first′ after′
+  pub chained-more : ((j : ℕ) → j < edges → getD ends j 0 < 256) → Chained k edges ends first′ after′
   chained-more inside = record {
     size-first = length-set first v k ∙ C .size-first;
     size-after = length-set after k (getD first v 0) ∙ C .size-after;
-    listed = λ j l b. by-cases (ℕ-discrete j k) (λ e. rw e (on-v (head in-k) (getD to k 0) (sym ev))) (λ n. old j (omega arith) b);
-    target = λ w j b l. by-cases (ℕ-discrete w v) (λ e. from-v w j e (rw e at l)) (λ n. C .target w j b (new-old (C .high w b) (rw (off-first w n) at l)));
+    listed = λ j l b. by-cases (ℕ-discrete j k) (λ e. rw e (on-v (head in-k) (getD ends k 0) (sym ev))) (λ n. old j (omega arith) b);
+    at-end = λ w j b l. by-cases (ℕ-discrete w v) (λ e. from-v w j e (rw e at l)) (λ n. C .at-end w j b (new-old (C .high w b) (rw (off-first w n) at l)));
     rising = λ i l b. by-cases (ℕ-discrete i k) (λ e. rw (e, at-after) (C .high v in-v)) (λ n. omega (arith, off-after i (omega arith), C .rising i (omega arith) b));
     high = λ w b. by-cases (ℕ-discrete w v) (λ e. rw (e, at-first) (omega arith)) (λ n. omega (arith, off-first w n, C .high w b));
   }
     where
-      old : (j : ℕ) → k < j → j < edges → Listed edges after′ j (getD first′ (getD to j 0) 0)
+      old : (j : ℕ) → k < j → j < edges → Listed edges after′ j (getD first′ (getD ends j 0) 0)
       old j h b =
-          let l = old-new (C .high (getD to j 0) (inside j b)) (C .listed j h b) in
-          by-cases (ℕ-discrete (getD to j 0) v)
-          (λ e. on-v (later in-k at-after (rw e at l)) (getD to j 0) e)
-          (λ n. rw (off-first (getD to j 0) n) l)
+          let l = old-new (C .high (getD ends j 0) (inside j b)) (C .listed j h b) in
+          by-cases (ℕ-discrete (getD ends j 0) v)
+          (λ e. on-v (later in-k at-after (rw e at l)) (getD ends j 0) e)
+          (λ n. rw (off-first (getD ends j 0) n) l)
 
-      from-v : (w j : ℕ) → w ≡ v → Listed edges after′ j (getD first′ v 0) → getD to j 0 ≡ w
+      from-v : (w j : ℕ) → w ≡ v → Listed edges after′ j (getD first′ v 0) → getD ends j 0 ≡ w
       from-v w j e l =
-          ⊎-elim (λ q. ap (λ x. getD to x 0) q ∙ sym ev ∙ sym e) (λ m. C .target v j in-v (new-old (C .high v in-v) m) ∙ sym e)
+          ⊎-elim (λ q. ap (λ x. getD ends x 0) q ∙ sym ev ∙ sym e) (λ m. C .at-end v j in-v (new-old (C .high v in-v) m) ∙ sym e)
           (split (rw at-first at l) at-after)

@@ -1,6 +1,7 @@
 pub mod Tests
 pub mod Relaxation
-pub mod Visits
 pub mod Chaining
-pub mod Surveys
+pub mod Waits
+pub mod Passing
+pub mod Settling
 pub mod Examples

@@ -14,9 +14,10 @@ use Rattle.counting.proofs.Paths.{append, circle}
 use Rattle.digraph.specs.declared.Layering.{Layering}
 use Rattle.digraph.specs.Digraph.{Leads, Within, Leveled, flat}
 use Rattle.digraph.specs.Relaxed.{higherOf, raised, relaxed, rounds, climbs, answer, withinOf, levelsOf, Levels-Mean}
+use Rattle.digraph.specs.Passes.{Sound}
 use Rattle.counting.proofs.Stores.{Stored, stored}
 use Rattle.counting.proofs.Stores.Stored.{here as same, apart as other}
-use Rattle.digraph.proofs.Tests.{within-is, within-true, climbs-all, climbs-not}
+use Rattle.digraph.proofs.Tests.{within-is, within-true, Climbs, climbs-all, climbs-not}
 
 pub flat-size : length flat ≡ 256
 unfolding flat
@@ -32,7 +33,7 @@ module _ (level : List ℕ) (u v : ℕ) (h : v < length level) where
   raised-view : (w : ℕ) → Stored level v (higherOf (getD level v 0) (getD level u 0)) w 0
   raised-view w = stored level v _ w 0 h
 
-  raised-kept : (w : ℕ) → getD level w 0 ≤ getD (raised level u v) w 0
+  pub raised-kept : (w : ℕ) → getD level w 0 ≤ getD (raised level u v) w 0
   unfolding raised
   raised-kept w = go (raised-view w)
     where
@@ -40,7 +41,7 @@ module _ (level : List ℕ) (u v : ℕ) (h : v < length level) where
       go (same e q) = omega (arith, q, ap (λ x. getD level x 0) e)
       go (other n q) = omega arith
 
-  raised-above : getD level u 0 < getD (raised level u v) v 0
+  pub raised-above : getD level u 0 < getD (raised level u v) v 0
   unfolding raised
   raised-above = go (raised-view v)
     where
@@ -51,19 +52,13 @@ module _ (level : List ℕ) (u v : ℕ) (h : v < length level) where
 -- ---- rounds
 
 module _ {nodes edges : ℕ} {from to : List ℕ} (W : Within nodes edges from to) where
-  -- each level is the length of a path, and 0 past the nodes
-  record Sound (level : List ℕ) : Type 0 where
-    size : length level ≡ 256
-    path : (v : ℕ) → (a : ℕ) × Path (Leads edges from to) a v (getD level v 0)
-    rest : (v : ℕ) → nodes ≤ v → getD level v 0 ≡ 0
-
-  flat-sound : Sound flat
+  pub flat-sound : Sound nodes edges from to flat
   flat-sound = record { size = flat-size; path = λ v. (v, rw (flat-at v) here); rest = λ v _. flat-at v }
 
-  target-in : (level : List ℕ) → Sound level → (k : ℕ) → k < edges → getD to k 0 < length level
+  target-in : (level : List ℕ) → Sound nodes edges from to level → (k : ℕ) → k < edges → getD to k 0 < length level
   target-in level s k l = omega (arith, s .size, W .few-nodes, W .to-in k l)
 
-  raised-sound : (level : List ℕ) (k : ℕ) → k < edges → Sound level → Sound (raised level (getD from k 0) (getD to k 0))
+  pub raised-sound : (level : List ℕ) (k : ℕ) → k < edges → Sound nodes edges from to level → Sound nodes edges from to (raised level (getD from k 0) (getD to k 0))
   unfolding raised
   raised-sound level k l s = record {
     size = length-set level (getD to k 0) _ ∙ s .size;
@@ -93,8 +88,8 @@ module _ {nodes edges : ℕ} {from to : List ℕ} (W : Within nodes edges from t
       past v h (other n q) = q ∙ s .rest v h
 
   -- the first k edges in one round
-  module _ (level : List ℕ) (S : Sound level) where
-    relaxed-sound : (k : ℕ) → k ≤ edges → Sound (relaxed k from to level)
+  module _ (level : List ℕ) (S : Sound nodes edges from to level) where
+    relaxed-sound : (k : ℕ) → k ≤ edges → Sound nodes edges from to (relaxed k from to level)
     unfolding relaxed
     relaxed-sound zero l = S
     relaxed-sound (suc k) l = raised-sound (relaxed k from to level) k (omega arith) (relaxed-sound k (omega arith))
@@ -122,7 +117,7 @@ module _ {nodes edges : ℕ} {from to : List ℕ} (W : Within nodes edges from t
         go (yes e) _ = rw e (omega (arith, relaxed-kept k (omega arith) (getD from k 0), raised-above (relaxed k from to level) (getD from k 0) (getD to k 0) fine))
         go (no n) ih = omega (arith, ih (omega arith), raised-kept (relaxed k from to level) (getD from k 0) (getD to k 0) fine (getD to j 0))
 
-  rounds-sound : (i : ℕ) → Sound (rounds i edges from to)
+  rounds-sound : (i : ℕ) → Sound nodes edges from to (rounds i edges from to)
   unfolding rounds
   rounds-sound zero = flat-sound
   rounds-sound (suc i) = relaxed-sound (rounds i edges from to) (rounds-sound i) edges (omega arith)
@@ -136,17 +131,34 @@ module _ {nodes edges : ℕ} {from to : List ℕ} (W : Within nodes edges from t
       let ih = rounds-upto i (omega arith) p in
       omega (arith, rw (s .source, s .target) at (relaxed-above (rounds i edges from to) (rounds-sound i) edges (omega arith) (s .edge) (s .inside)))
 
+  -- where every edge climbs, no path is longer than its end's level
+  module _ {level : List ℕ} (S : Sound nodes edges from to level) (climb : (j : ℕ) → j < edges → Climbs from to level j) where
+    climbed : {a v k : ℕ} → Path (Leads edges from to) a v k → k ≤ getD level v 0
+    climbed here = omega arith
+    climbed (more p s) = let ih = climbed p in omega (arith, rw (s .source, s .target) at (climb (s .edge) (s .inside)))
+
+    pub climbs-leveled : Leveled nodes edges from to true level
+    climbs-leveled = record {
+      size = S .size;
+      deepest = λ _ v h. let (a, p) = S .path v in record { start = a; path = p; most = λ b j q. climbed q };
+      rest = S .rest;
+      circle = λ f. absurd (true≢false f);
+    }
+
+  pub circle-leveled : Circle (Leads edges from to) → Leveled nodes edges from to false flat
+  circle-leveled c = record {
+    size = flat-size;
+    deepest = λ t. absurd (false≢true t);
+    rest = λ v _. flat-at v;
+    circle = λ _. (c, refl);
+  }
+
   -- as many rounds as nodes
   abbrev final : List ℕ
   final = rounds nodes edges from to
 
-  source-in : (u v : ℕ) → Leads edges from to u v → u < nodes
+  pub source-in : (u v : ℕ) → Leads edges from to u v → u < nodes
   source-in u v s = rw (s .source) at (W .from-in (s .edge) (s .inside))
-
-  -- where every edge climbs, no path is longer than its end's level
-  settled : ((j : ℕ) → j < edges → getD final (getD from j 0) 0 < getD final (getD to j 0) 0) → {a v k : ℕ} → Path (Leads edges from to) a v k → k ≤ getD final v 0
-  settled c here = omega arith
-  settled c (more p s) = let ih = settled c p in omega (arith, rw (s .source, s .target) at (c (s .edge) (s .inside)))
 
   -- an edge that does not climb ends a path of as many edges as nodes
   unsettled : (j : ℕ) → j < edges → getD final (getD to j 0) 0 ≤ getD final (getD from j 0) 0 → Circle (Leads edges from to)
@@ -159,18 +171,8 @@ module _ {nodes edges : ℕ} {from to : List ℕ} (W : Within nodes edges from t
 
   leveled : (b : Bool) → climbs edges from to final ≡ b → Leveled nodes edges from to (answer b final .acyclic) (answer b final .level)
   unfolding answer
-  leveled true t = record {
-    size = rounds-sound nodes .size;
-    deepest = λ _ v h. let (a, p) = rounds-sound nodes .path v in record { start = a; path = p; most = λ b j q. settled (climbs-all from to final edges t) q };
-    rest = rounds-sound nodes .rest;
-    circle = λ f. absurd (true≢false f);
-  }
-  leveled false f = record {
-    size = flat-size;
-    deepest = λ t. absurd (false≢true t);
-    rest = λ v _. flat-at v;
-    circle = λ _. let (j, l, h) = climbs-not from to final edges f in (unsettled j l h, refl);
-  }
+  leveled true t = climbs-leveled (rounds-sound nodes) (climbs-all from to final edges t)
+  leveled false f = let (j, l, h) = climbs-not from to final edges f in circle-leveled (unsettled j l h)
 
 pub levels-mean : Levels-Mean
 unfolding levelsOf

@@ -1,3 +1,4 @@
 pub mod Digraph
 pub mod Relaxed
-pub mod Visits
+pub mod Chains
+pub mod Passes

@@ -1,10 +1,11 @@
 // Levels of the nodes of a digraph: for each the most edges on a directed path to it; or the finding of a circle.
 ghost use mathlib.Core.Path.{_≡_};
-ghost use Prim.Native.Nat.{ℕ, _+_, _-_, _≤_, _<_, max};
-ghost use lib.ListN.{getD};
-ghost use Rattle.digraph.specs.Digraph.{flat};
-ghost use Rattle.digraph.specs.Relaxed.{higherOf, withinOf, levelsOf};
-ghost use Rattle.digraph.specs.Visits.{Enters, Lists, Chained, Ready, Visited, Surveyed, Lowered};
+ghost use mathlib.Core.Bool.{true};
+ghost use Prim.Native.Nat.{ℕ, _+_, _≤_, _<_};
+ghost use lib.ListN.{getD, length};
+ghost use Rattle.digraph.specs.Relaxed.{withinOf, levelsOf};
+ghost use Rattle.digraph.specs.Chains.{Chained};
+ghost use Rattle.digraph.specs.Passes.{Waiting, Queued, Underway, Onward};
 use counting::wide;
 
 pub struct Layering {
@@ -35,106 +36,118 @@ fn within(nodes: usize, edges: usize, from: &[u16; 256], to: &[u16; 256]) -> boo
     true
 }
 
-// Lists of the edges into each node: the first edge into it, and after each edge the next.
+// A list of edges for each node, by one end of the edges: the first edge at the node, and after each edge the next.
 struct Chains {
-    first: [u16; 256],
-    after: [u16; 256],
+    first: [usize; 256],
+    after: [usize; 256],
 }
 
-fn chain(edges: usize, to: &[u16; 256]) -> Chains
-    requires { ⌜ (edges ≤ 256) × ((k : ℕ) → k < edges → getD (now to) k 0 < 256) ⌝ }
-    ensures { λ r. ⌜ Chained 0 edges (now (to .entry)) (r .first) (r .after) ⌝ }
+// The lists of the edges by their ends `ends`, made from the last edge down.
+fn chain(edges: usize, ends: &[u16; 256]) -> Chains
+    requires { ⌜ (edges ≤ 256) × ((k : ℕ) → k < edges → getD (now ends) k 0 < 256) ⌝ }
+    ensures { λ r. ⌜ Chained 0 edges (now (ends .entry)) (r .first) (r .after) ⌝ }
 {
-    let mut first = [256u16; 256];
-    let mut after = [256u16; 256];
+    let mut first = [256usize; 256];
+    let mut after = [256usize; 256];
     let mut k = edges;
     while 0 < k {
         k -= 1;
-        let v = wide(to[k]);
+        let v = wide(ends[k]);
         after[k] = first[v];
-        first[v] = k as u16;
+        first[v] = k;
     }
     Chains { first, after }
 }
 
-// `most`, or one above `d` where that is more.
-fn higher(most: u16, d: u16) -> u16
-    requires { ⌜ d < 65535 ⌝ }
-    ensures { λ r. ⌜ r ≡ higherOf most d ⌝ }
+// For each node the number of the edges into it.
+fn waiting_edges(edges: usize, to: &[u16; 256]) -> [u16; 256]
+    requires { ⌜ (edges ≤ 256) × ((k : ℕ) → k < edges → getD (now to) k 0 < 256) ⌝ }
+    ensures { λ r. ⌜ Waiting edges (now (to .entry)) (λ j. true) r ⌝ }
 {
-    if d < most { most } else { d + 1 }
-}
-
-// Visits the nodes that lead to `v`, and then sets its depth above theirs; false where a circle is found.
-fn visit(
-    v: usize,
-    edges: usize,
-    from: &[u16; 256],
-    first: &[u16; 256],
-    after: &[u16; 256],
-    depth: &mut [u16; 256],
-) -> bool
-    requires { ⌜ Lists edges (now from) (now after) ⌝ }
-    requires { ⌜ Ready (Enters edges (now from) (now first) (now after)) v (now depth) ⌝ }
-    ensures { λ r. ⌜ Visited (Enters edges (now (from .entry)) (now (first .entry)) (now (after .entry))) v (now (depth .entry)) (now (depth .exit)) r ⌝ }
-{
-    depth[v] = 1;
-    let mut most = 2;
-    let mut k = wide(first[v]);
+    let mut waiting = [0u16; 256];
+    let mut k = 0;
     while k < edges {
-        let u = wide(from[k]);
-        if depth[u] == 0 {
-            if !visit(u, edges, from, first, after, depth) {
-                return false;
-            }
-        }
-        let d = depth[u];
-        if d == 1 {
-            return false;
-        }
-        most = higher(most, d);
-        k = wide(after[k]);
+        let w = wide(to[k]);
+        waiting[w] += 1;
+        k += 1;
     }
-    depth[v] = most;
-    true
+    waiting
 }
 
-// Visits the first `nodes` nodes; false where a circle is found.
-fn survey(
-    nodes: usize,
+// Puts the nodes for which no edge waits in the queue; returns how many there are.
+fn sources(nodes: usize, waiting: &[u16; 256], queue: &mut [usize; 256]) -> usize
+    requires { ⌜ (nodes ≤ 256) × (length (now queue) ≡ 256) ⌝ }
+    ensures { λ r. ⌜ Queued nodes (now (waiting .entry)) (now (queue .exit)) r ⌝ }
+{
+    let mut tail = 0;
+    let mut v = 0;
+    while v < nodes {
+        if waiting[v] == 0 {
+            queue[tail] = v;
+            tail += 1;
+        }
+        v += 1;
+    }
+    tail
+}
+
+// Passes the edges out of the node at `head` of the queue: the end of each is raised above that node, and goes into the queue where no
+// other edge waits for it. Returns the queue's new end.
+fn pass(
+    head: usize,
     edges: usize,
-    from: &[u16; 256],
-    first: &[u16; 256],
-    after: &[u16; 256],
-    depth: &mut [u16; 256],
-) -> bool
-    requires { ⌜ (nodes ≤ 256) × Lists edges (now from) (now after) × (now depth ≡ flat) ⌝ }
-    ensures { λ r. ⌜ Surveyed (Enters edges (now (from .entry)) (now (first .entry)) (now (after .entry))) nodes (now (depth .exit)) r ⌝ }
+    to: &[u16; 256],
+    first: &[usize; 256],
+    after: &[usize; 256],
+    waiting: &mut [u16; 256],
+    level: &mut [u16; 256],
+    queue: &mut [usize; 256],
+    end: usize,
+) -> usize
+    requires { ⌜ (head < end) × Underway edges (now to) (now first) (now after) head (now waiting) (now level) (now queue) end ⌝ }
+    ensures { λ r. ⌜ Onward edges (now (to .entry)) (now (first .entry)) (now (after .entry)) head (now (waiting .entry)) (now (level .entry)) (now (queue .entry)) end (head + 1) (now (waiting .exit)) (now (level .exit)) (now (queue .exit)) r ⌝ }
 {
-    let mut v = 0;
-    while v < nodes {
-        if depth[v] == 0 {
-            if !visit(v, edges, from, first, after, depth) {
-                return false;
-            }
+    let v = queue[head];
+    let d = level[v];
+    let mut tail = end;
+    let mut k = first[v];
+    while k < edges {
+        let w = wide(to[k]);
+        if level[w] <= d {
+            level[w] = d + 1;
         }
-        v += 1;
+        let left = waiting[w] - 1;
+        waiting[w] = left;
+        if left == 0 {
+            queue[tail] = w;
+            tail += 1;
+        }
+        k = after[k];
     }
-    true
+    tail
 }
 
-// The levels of the first `nodes` nodes, from their depths.
-fn lowered(nodes: usize, depth: &[u16; 256]) -> [u16; 256]
-    requires { ⌜ (nodes ≤ 256) × ((v : ℕ) → v < nodes → 1 < getD (now depth) v 0) ⌝ }
-    ensures { λ r. ⌜ Lowered nodes (now (depth .entry)) r ⌝ }
+// Passes the edges out of each node in the queue, of which there are `end` at first; returns how many there are at last.
+fn settle(
+    edges: usize,
+    to: &[u16; 256],
+    first: &[usize; 256],
+    after: &[usize; 256],
+    waiting: &mut [u16; 256],
+    level: &mut [u16; 256],
+    queue: &mut [usize; 256],
+    end: usize,
+) -> usize
+    requires { ⌜ Underway edges (now to) (now first) (now after) 0 (now waiting) (now level) (now queue) end ⌝ }
+    ensures { λ r. ⌜ Onward edges (now (to .entry)) (now (first .entry)) (now (after .entry)) 0 (now (waiting .entry)) (now (level .entry)) (now (queue .entry)) end r (now (waiting .exit)) (now (level .exit)) (now (queue .exit)) r ⌝ }
 {
-    let mut level = [0u16; 256];
-    let mut v = 0;
-    while v < nodes {
-        level[v] = depth[v] - 2;
-        v += 1;
+    let mut tail = end;
+    let mut head = 0;
+    while head < tail {
+        tail = pass(head, edges, to, first, after, waiting, level, queue, tail);
+        head += 1;
     }
-    level
+    tail
 }
 
 // The level of each of `nodes` nodes, where the edges from `from` to `to` make no circle; else, and where an end is no node, `acyclic` is
@@ -149,14 +162,26 @@ pub fn levels(nodes: usize, edges: usize, from: &[u16; 256], to: &[u16; 256]) ->
     if !within(nodes, edges, from, to) {
         return cyclic;
     }
-    let c = chain(edges, to);
+    let c = chain(edges, from);
     let first = c.first;
     let after = c.after;
-    let mut depth = [0u16; 256];
-    if !survey(nodes, edges, from, &first, &after, &mut depth) {
+    let mut waiting = waiting_edges(edges, to);
+    let mut queue = [0usize; 256];
+    let end = sources(nodes, &waiting, &mut queue);
+    let mut level = [0u16; 256];
+    let queued = settle(
+        edges,
+        to,
+        &first,
+        &after,
+        &mut waiting,
+        &mut level,
+        &mut queue,
+        end,
+    );
+    if queued < nodes {
         return cyclic;
     }
-    let level = lowered(nodes, &depth);
     Layering {
         acyclic: true,
         level,

@@ -1,12 +1,13 @@
 -- The loops over the lines, turn by turn: what is left to read gives what the whole gives. Assumes nothing.
 use Prim.Native.Nat.{ℕ, zero, suc, _+_, _-_, _≤_, _<_}
-use mathlib.Core.Path.{_≡_, refl, sym, _∙_}
+use mathlib.Core.Path.{_≡_, refl, sym, ap, _∙_}
 use mathlib.Core.Logic.{by-cases}
 use mathlib.Core.Bool.{Bool, true, false, not, _&&_, and-eq-true-iff, false≢true}
 use mathlib.Core.List.{List, [], _∷_}
 use native.Mathlib.Decide.{ℕ-discrete}
 use native.Mathlib.Omega.{arith}
-use borrow.Author.Tests.{ltb-true, leb-true, eqb-false, not-true}
+use native.Mathlib.Nat.{zero-add}
+use borrow.Author.Tests.{ltb-true, leb-true, eqb-true, eqb-false, eq-eqb, not-true}
 use lib.Dec.{eqb, ltb, leb}
 use lib.ListN.{getD, set, length, replicate}
 use lib.Seq.{getD-set-same, getD-set-other}
@@ -22,7 +23,7 @@ use Rattle.sheet.specs.Darts.{dartAt}
 use Rattle.answers.specs.Refusals.{isAccepted}
 use Rattle.sheet.specs.Check.{judge}
 use Rattle.answers.specs.declared.Answer.{Answer}
-use Rattle.answers.specs.declared.Answer.the-variants.{Accepted, BadLayout, CountOutOfLimits, BadEdge, BadRotation}
+use Rattle.answers.specs.declared.Answer.the-variants.{Accepted, BadLayout, CountOutOfLimits, BadEdge}
 use Rattle.format.specs.declared.lines.Count.{Count}
 use Rattle.format.specs.declared.lines.Count.the-variants as counts
 use Rattle.format.specs.declared.lines.Step.{Step}
@@ -32,9 +33,8 @@ use Rattle.format.specs.Rings.{isRotation, linkFrom, linkRing}
 use Rattle.format.specs.Load.{Parsed, emptySheet, withEdge, withNexts, judged, ringLines, edgeLines, withCount, loaded}
 use Rattle.format.specs.Load.Parsed.{refused}
 use Rattle.sheet.specs.Darts.{sheetOf}
-use Rattle.format.specs.Steps.{noNexts, countOf, Joint, afterEdges, EdgesRead, afterRings, touchesAt, dartOf, numbersOn, fitFrom, linkedFrom, linked}
+use Rattle.format.specs.Steps.{noNexts, countOf, Joint, afterEdges, EdgesRead, afterRings, touchesAt, dartOf, fitFrom, linkedFrom, linked, Ringed, ringed, unringed, ringedBy, linkedOn, ringFrom, RingRead}
 use Rattle.format.proofs.Occurrences.{rotation-if, rotation-length, rotation-fits}
-use Rattle.format.proofs.Shapes.{line-some, line-none}
 
 -- ---- the count lines
 
@@ -207,39 +207,43 @@ module _ (text : List ℕ) (n m : ℕ) (tails heads : List ℕ) (whole : Parsed)
   unfolding ringLines
   rings-over h = let z : n - v ≡ 0 = omega arith in rw z at rest
 
-  module _ (more : v < n) (r : Numbers) (e : r ≡ numbersOf (lineAt aroundKey text at)) where
-    pub ring-line-bad : r .count ≡ 0 → refused BadLayout ≡ whole
-    unfolding ringLines
-    ring-line-bad h =
-        let z : n - v ≡ suc (n - (v + 1)) = omega arith in
-        sym (line-none aroundKey text at r e (refused BadLayout) _ h) ∙ rw z at rest
+  -- a line that was read: what load goes on to
+  go-line : Ringed → Parsed
+  go-line (ringed next after) = ringLines (n - (v + 1)) text (sheetOf n m tails heads after) (v + 1) next
+  go-line (unringed a) = refused a
 
-    module _ (some : r .count ≡ 0 → ⊥) where
-      not-rotation : isRotation (sheetOf n m tails heads nexts) v (numbersOn text (at + 7)) ≡ false → refused BadRotation ≡ whole
-      unfolding ringLines withSome
-      not-rotation h =
-          let z : n - v ≡ suc (n - (v + 1)) = omega arith in
-          rw (z, line-some aroundKey text at r e some .whole, h) at rest
+  module _ (more : v < n) (seen : List ℕ) (room : m ≤ length seen) (clear : (k : ℕ) → getD seen k 0 ≤ v) (degree : ℕ) (d : degree ≡ count (touchesAt tails heads v) m) where
+    misfit : (ws : List ℕ) → isRotation (sheetOf n m tails heads nexts) v ws ≡ false → (fitFrom m tails heads v seen ws && eqb (0 + length ws) degree) ≡ false
+    misfit ws f =
+        by-bool (fitFrom m tails heads v seen ws)
+        (λ t.
+        by-bool (eqb (0 + length ws) degree)
+        (λ e. absurd (false≢true (sym f ∙ rotation-if n m tails heads nexts v ws seen room clear degree d (omega (arith, eqb-true (0 + length ws) degree e)) t))) (λ e. rw (t, e) refl))
+        (λ u. rw u refl)
 
-      module _ (seen : List ℕ) (room : m ≤ length seen) (clear : (k : ℕ) → getD seen k 0 ≤ v) (degree : ℕ) (d : degree ≡ count (touchesAt tails heads v) m) where
-        pub ring-line-size : (r .count ≡ degree → ⊥) → refused BadRotation ≡ whole
-        ring-line-size h =
-            not-rotation (by-bool (isRotation (sheetOf n m tails heads nexts) v (numbersOn text (at + 7)))
-            (λ t. absurd (h (line-some aroundKey text at r e some .size ∙ rotation-length n m tails heads nexts v _ seen room clear degree d t))) (λ f. f))
-
-        pub ring-line-unfit : false ≡ fitFrom m tails heads v seen (numbersOn text (at + 7)) → refused BadRotation ≡ whole
-        ring-line-unfit h =
-            not-rotation (by-bool (isRotation (sheetOf n m tails heads nexts) v (numbersOn text (at + 7)))
-            (λ t. absurd (false≢true (h ∙ rotation-fits n m tails heads nexts v _ seen room clear degree d t))) (λ f. f))
-
-        pub ring-line-good : r .count ≡ degree → true ≡ fitFrom m tails heads v seen (numbersOn text (at + 7)) → (after : List ℕ) → after ≡ linked tails v (numbersOn text (at + 7)) nexts
-            → ringLines (n - (v + 1)) text (sheetOf n m tails heads after) (v + 1) (r .next) ≡ whole
-        unfolding ringLines withSome withNexts
-        ring-line-good c f after q =
+    line-is : go-line (ringFrom degree m tails heads v 0 0 0 seen nexts (lineAt aroundKey text at)) ≡ whole
+    unfolding go-line ringFrom linkedOn ringLines withSome withNexts
+    line-is = go (lineAt aroundKey text at) refl
+      where
+        go : (l : Listed) → lineAt aroundKey text at ≡ l → go-line (ringFrom degree m tails heads v 0 0 0 seen nexts l) ≡ whole
+        go unlisted e =
             let z : n - v ≡ suc (n - (v + 1)) = omega arith in
-            let l = line-some aroundKey text at r e some in
-            rw (q, link-ring n m tails heads nexts v (numbersOn text (at + 7)) nexts)
-            (rw (z, l .whole, rotation-if n m tails heads nexts v _ seen room clear degree d (sym (l .size) ∙ c) (sym f)) at rest)
+            rw (z, e) at rest
+        go (listed ws next) e =
+            let z : n - v ≡ suc (n - (v + 1)) = omega arith in
+            by-bool (isRotation (sheetOf n m tails heads nexts) v ws)
+            (λ t.
+            rw (rotation-fits n m tails heads nexts v ws seen room clear degree d t, eq-eqb (0 + length ws) degree (zero-add (length ws) ∙ rotation-length n m tails heads nexts v ws seen room clear degree d t), link-ring n m tails heads nexts v ws nexts) (rw (z, e, t) at rest))
+            (λ f. rw (misfit ws f) (rw (z, e, f) at rest))
+
+    module _ (seen′ after : List ℕ) (r : Step) (read : RingRead text at degree m tails heads v seen nexts seen′ after r) where
+      pub ring-line-refused : (a : Answer) → r ≡ Refused a → refused a ≡ whole
+      unfolding go-line ringedBy
+      ring-line-refused a e = rw e at (ap go-line (read .rest) ∙ line-is)
+
+      pub ring-line-next : (next : ℕ) → r ≡ Next next → ringLines (n - (v + 1)) text (sheetOf n m tails heads after) (v + 1) next ≡ whole
+      unfolding go-line ringedBy
+      ring-line-next next e = rw e at (ap go-line (read .rest) ∙ line-is)
 
 -- what load goes on to
 module _ (n m : ℕ) (tails heads nexts : List ℕ) (r : Step) (whole : Parsed) (rest : afterRings n m tails heads nexts r ≡ whole) where

@@ -2,24 +2,26 @@
 use Prim.Native.Nat.{ℕ, _+_, _*_, _≤_, _<_}
 use mathlib.Core.Path.{_≡_}
 use mathlib.Core.Logic.{_≢_}
-use mathlib.Core.Bool.{Bool, true, cond, not, _&&_, _||_}
+use mathlib.Core.Bool.{Bool, true, false, cond, not, _&&_, _||_}
 use mathlib.Core.List.{List, [], _∷_}
 use lib.Dec.{eqb, ltb, leb}
 use lib.ListN.{getD, set, length, replicate}
 use Rattle.text.specs.declared.Number.{Number}
 use Rattle.text.specs.declared.Number.the-variants.{Value, Missing}
 use Rattle.counting.specs.Choice.{pick}
-use Rattle.text.specs.Reading.{Listed, numbersAt}
+use Rattle.text.specs.Reading.{Listed, numbersAt, lineAt}
 use Rattle.text.specs.Reading.Listed.{listed, unlisted}
 use Rattle.text.specs.Shapes.{withOne}
 use Rattle.sheet.specs.Darts.{sheetOf}
-use Rattle.answers.specs.declared.Answer.the-variants.{BadLayout, CountOutOfLimits}
+use Rattle.answers.specs.declared.Answer.{Answer}
+use Rattle.answers.specs.declared.Answer.the-variants.{BadLayout, CountOutOfLimits, BadRotation}
 use Rattle.format.specs.declared.lines.Count.{Count}
 use Rattle.format.specs.declared.lines.Count.the-variants as counts
 use Rattle.format.specs.declared.lines.Step.{Step}
 use Rattle.format.specs.declared.lines.Step.the-variants.{Next, Refused}
 use Rattle.format.specs.declared.rings.Entry.{Entry}
-use Rattle.format.specs.declared.rings.Entry.the-variants.{Edge, Bad}
+use Rattle.format.specs.declared.rings.Entry.the-variants.{Edge, Unfit, Absent}
+use Rattle.text.specs.Keys.{aroundKey}
 use Rattle.format.specs.Load.{Parsed, judged, ringLines, edgeLines}
 use Rattle.format.specs.Load.Parsed.{refused}
 
@@ -62,21 +64,37 @@ dartOf tails v w = cond (eqb (getD tails w 0) v) (2 * w) (2 * w + 1)
 unfoldable pub fitsOf : ℕ → List ℕ → List ℕ → ℕ → List ℕ → ℕ → Bool
 fitsOf m tails heads v seen w = ltb w m && (touchesAt tails heads v w && not (eqb (getD seen w 0) (v + 1)))
 
+-- its dart then, or 512
+unfoldable pub dartIf : ℕ → List ℕ → List ℕ → ℕ → List ℕ → ℕ → ℕ
+dartIf m tails heads v seen w = cond (fitsOf m tails heads v seen w) (dartOf tails v w) 512
+
+-- the edge that a number names: its dart and the place after it, or one that may not stand there; and the marks from then on
 unfoldable pub edgeOf : ℕ → List ℕ → List ℕ → ℕ → List ℕ → Number → Entry
-edgeOf m tails heads v seen Missing = Bad
-edgeOf m tails heads v seen (Value w next) = cond (fitsOf m tails heads v seen w) (Edge (dartOf tails v w) next) Bad
+edgeOf m tails heads v seen Missing = Absent
+edgeOf m tails heads v seen (Value w next) = cond (fitsOf m tails heads v seen w) (Edge (dartOf tails v w) next) (Unfit next)
 
 unfoldable pub marksOf : ℕ → List ℕ → List ℕ → ℕ → List ℕ → Number → List ℕ
 marksOf m tails heads v seen Missing = seen
 marksOf m tails heads v seen (Value w next) = cond (fitsOf m tails heads v seen w) (set seen w (v + 1)) seen
 
--- the numbers at a place, a comma between
-unfoldable pub valuesOf : Listed → List ℕ
-valuesOf (listed vs next) = vs
-valuesOf unlisted = []
+-- one dart more behind `count` others: the first of all, and the last one's link to it
+unfoldable pub firstOf : (count first dart : ℕ) → ℕ
+firstOf count first dart = cond (eqb count 0) dart first
 
-abbrev pub numbersOn : List ℕ → ℕ → List ℕ
-numbersOn text at = valuesOf (numbersAt text at)
+unfoldable pub linkOf : (count last dart : ℕ) → List ℕ → List ℕ
+linkOf count last dart nexts = cond (eqb count 0) nexts (set nexts last dart)
+
+-- the numbers that follow one that ends at a place: a comma and more, or none
+unfoldable pub restAt : List ℕ → ℕ → Listed
+restAt s at = pick (eqb (getD s at 0) 44) (λ _. numbersAt s (at + 1)) (λ _. listed [] at)
+
+-- how a line with an edge that may not stand there is refused: shape first
+unfoldable pub isListed : Listed → Bool
+isListed (listed ws next) = true
+isListed unlisted = false
+
+unfoldable pub refusalOf : Listed → Answer
+refusalOf l = cond (isListed l) BadRotation BadLayout
 
 -- each of the edges ws, marked in their order, may stand on v's line
 unfoldable pub fitFrom : ℕ → List ℕ → List ℕ → ℕ → List ℕ → List ℕ → Bool
@@ -92,9 +110,33 @@ unfoldable pub linked : List ℕ → ℕ → List ℕ → List ℕ → List ℕ
 linked tails v [] nexts = nexts
 linked tails v (w ∷ ws) nexts = linkedFrom tails v (dartOf tails v w) (dartOf tails v w) ws nexts
 
-pub record RingRead (m : ℕ) (tails heads : List ℕ) (v : ℕ) (ws seen₀ nexts₀ seen nexts : List ℕ) (r : Bool) : Type 0 where
-  pub fit : r ≡ fitFrom m tails heads v seen₀ ws
-  pub links : r ≡ true → nexts ≡ linked tails v ws nexts₀
+-- what a line comes to: the place after it and the next-darts then, or a refusal
+pub data Ringed : Type 0 where
+  ringed : ℕ → List ℕ → Ringed
+  unringed : Answer → Ringed
+
+unfoldable pub ringedBy : List ℕ → Step → Ringed
+ringedBy nexts (Next at) = ringed at nexts
+ringedBy nexts (Refused a) = unringed a
+
+-- after all the numbers: `count` edges stood there, and v has `degree`
+unfoldable pub ringEnd : (degree count first last : ℕ) → List ℕ → Listed → Ringed
+ringEnd degree count first last nexts unlisted = unringed BadLayout
+ringEnd degree count first last nexts (listed ws next) = cond (eqb count degree) (ringed next (set nexts last first)) (unringed BadRotation)
+
+-- v's darts linked in the order of the list, behind `count` others
+unfoldable pub linkedOn : List ℕ → ℕ → (count first last : ℕ) → List ℕ → List ℕ → List ℕ
+linkedOn tails v count first last ws nexts = cond (eqb count 0) (linked tails v ws nexts) (linkedFrom tails v first last ws nexts)
+
+-- what v's line comes to by the rest of it, where `count` edges stood there before: shape first
+unfoldable pub ringFrom : (degree m : ℕ) (tails heads : List ℕ) (v count first last : ℕ) (seen nexts : List ℕ) → Listed → Ringed
+ringFrom degree m tails heads v count first last seen nexts unlisted = unringed BadLayout
+ringFrom degree m tails heads v count first last seen nexts (listed ws next) =
+    cond (fitFrom m tails heads v seen ws && eqb (count + length ws) degree) (ringed next (linkedOn tails v count first last ws nexts)) (unringed BadRotation)
+
+-- v's line at a place was read: what it comes to, and no mark is above this line's
+pub record RingRead (text : List ℕ) (at degree m : ℕ) (tails heads : List ℕ) (v : ℕ) (seen₀ nexts₀ seen nexts : List ℕ) (r : Step) : Type 0 where
+  pub rest : ringedBy nexts r ≡ ringFrom degree m tails heads v 0 0 0 seen₀ nexts₀ (lineAt aroundKey text at)
   pub marks : (k : ℕ) → getD seen₀ k 0 ≤ v + 1 → getD seen k 0 ≤ v + 1
   pub size : length seen ≡ length seen₀
 

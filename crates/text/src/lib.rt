@@ -20,7 +20,7 @@ pub struct Numbers {
 }
 
 // The byte at a place, 0 past the end.
-fn byte(s: &[u8], at: usize) -> u8
+pub fn byte(s: &[u8], at: usize) -> u8
     ensures { λ r. ⌜ r ≡ getD (now (s .entry)) at 0 ⌝ }
 {
     if s.len() <= at {

@@ -3,16 +3,16 @@ use mathlib.Core.Path.{_≡_}
 use Prim.Native.Nat.{suc, _-_, _≤_, _<_}
 use native.Mathlib.Omega.{arith}
 use borrow.Author.Needs.{needs}
-use Rattle.digraph.specs.Visits.{Chained}
+use Rattle.digraph.specs.Chains.{Chained}
 use Rattle.digraph.proofs.Chaining.{unchained, chained-more}
 use Rattle.digraph.proofs.chain.Statement.{statement}
 use Rattle.digraph.proofs.chain.Tie as tie
 
 abbrev Inv-loop : tie.InvT-loop
-Inv-loop edges to first₀ after₀ k₀ first after k = (k ≤ edges) × Chained k edges to first after
+Inv-loop edges ends first₀ after₀ k₀ first after k = (k ≤ edges) × Chained k edges ends first after
 
 abbrev μ-loop : tie.MeasureT-loop
-μ-loop edges to first₀ after₀ k₀ first after k = k
+μ-loop edges ends first₀ after₀ k₀ first after k = k
 
 loop-holds : tie.Need-loop-holds Inv-loop μ-loop
 loop-holds c = (search needs, unchained _ _ (c .pre .0))
@@ -46,9 +46,6 @@ mul-after-2 c = search needs
 
 array-write-after : tie.Need-array-write-after Inv-loop μ-loop
 array-write-after c = search needs
-
-cast-first : tie.Need-cast-first Inv-loop μ-loop
-cast-first c = search needs
 
 mul-first : tie.Need-mul-first Inv-loop μ-loop
 mul-first c = omega (arith, end-in c)
@@ -84,7 +81,6 @@ chain-spec =
     array-read-after
     mul-after-2
     array-write-after
-    cast-first
     mul-first
     array-write-first
     loop-less

@@ -6,9 +6,10 @@ use borrow.Author.Tests.{not-true, not-false}
 use borrow.Author.Needs.{needs}
 use Rattle.digraph.specs.Digraph.{Within, flat}
 use Rattle.digraph.specs.Relaxed.{withinOf}
+use Rattle.digraph.specs.Passes.{Listing, Settled}
 use Rattle.digraph.proofs.Tests.{within-is}
 use Rattle.digraph.proofs.Relaxation.{outside, right}
-use Rattle.digraph.proofs.Surveys.{lists, acyclic, cyclic}
+use Rattle.digraph.proofs.Settling.{start, acyclic, cyclic}
 use Rattle.digraph.proofs.levels.Statement.{statement}
 use Rattle.digraph.proofs.levels.Tie as tie
 
@@ -26,33 +27,47 @@ inside : (c : tie.Else1) → Within (c .before .before .args .nodes) (c .before 
 inside c = within-is _ _ _ _ (passed c)
 
 chain-requires : tie.Need-chain-requires
-chain-requires c κs = let W = inside c in (W .few-edges, λ k h. omega (arith, W .to-in k h, W .few-nodes))
+chain-requires c κs = let W = inside c in (W .few-edges, λ k h. omega (arith, W .from-in k h, W .few-nodes))
 
-survey-requires : tie.Need-survey-requires
+-- the digraph with its lists
+abbrev listing : (c : tie.After-chain) → Listing (c .before .before .before .args .edges) (c .before .before .before .args .to .now) (c .chain .result .first) (c .chain .result .after)
+listing c = record { nodes = c .before .before .before .args .nodes; from = c .before .before .before .args .from .now; within = inside (c .before); chained = c .chain .ensures }
+
+waiting-edges-requires : tie.Need-waiting-edges-requires
+waiting-edges-requires c κs = let W = inside (c .before .before .before) in (W .few-edges, λ k h. omega (arith, W .to-in k h, W .few-nodes))
+
+sources-requires : tie.Need-sources-requires
+sources-requires c κs = (inside (c .before .before .before .before .before .before) .few-nodes, refl)
+
+-- before the first edge is passed
+begun : (c : tie.After-sources)
+    → let at-waiting = c .before .before .before in
+    Settled (listing (at-waiting .before .before .before)) 0 (at-waiting .waiting-edges .result) flat (c .sources .last .1 .1 .0) (c .sources .result)
+begun c =
+    let at-waiting = c .before .before .before in
+    start (listing (at-waiting .before .before .before)) (at-waiting .waiting-edges .ensures) (c .sources .ensures)
+
+settle-requires : tie.Need-settle-requires
 unfolding flat
-survey-requires c κs =
-    let at-chain = c .before .before .before .before .before in
-    let W = inside (at-chain .before) in
-    (W .few-nodes, lists W (at-chain .chain .ensures), refl)
+settle-requires c κs =
+    let at-sources = c .before .before .before .before .before in
+    record { listing = listing (at-sources .before .before .before .before .before .before); settled = begun at-sources }
 
 returns-2 : tie.Need-returns-2
 unfolding flat
 returns-2 c =
-    let at-survey = c .before in
-    let at-chain = at-survey .before .before .before .before .before .before in
-    right _ _ _ _ (passed (at-chain .before)) _ (cyclic (inside (at-chain .before)) (at-chain .chain .ensures) (not-true _ (c .if2 .taken)) (at-survey .survey .ensures) refl)
-
-lowered-requires : tie.Need-lowered-requires
-lowered-requires c κs =
-    let at-survey = c .before .before in
-    let at-chain = at-survey .before .before .before .before .before .before in
-    (inside (at-chain .before) .few-nodes, at-survey .survey .ensures .done (not-false _ (c .before .if2 .left)))
+    let at-sources = c .before .before .before .before .before .before .before in
+    let at-chain = at-sources .before .before .before .before .before .before in
+    let G = listing at-chain in
+    right _ _ _ _ (passed (at-chain .before)) _ (cyclic G (c .before .settle .ensures G (begun at-sources)) (c .if2 .taken))
 
 returns-3 : tie.Need-returns-3
+unfolding flat
 returns-3 c =
-    let at-survey = c .before .before .before in
-    let at-chain = at-survey .before .before .before .before .before .before in
-    right _ _ _ _ (passed (at-chain .before)) _ (acyclic (inside (at-chain .before)) (at-chain .chain .ensures) (not-false _ (c .before .before .if2 .left)) (at-survey .survey .ensures) (c .lowered .ensures))
+    let at-sources = c .before .before .before .before .before .before .before in
+    let at-chain = at-sources .before .before .before .before .before .before in
+    let G = listing at-chain in
+    right _ _ _ _ (passed (at-chain .before)) _ (acyclic G (c .before .settle .ensures G (begun at-sources)) (c .if2 .left))
 
 pub levels-spec : {M : Type 1} → statement M
 levels-spec =
@@ -61,7 +76,8 @@ levels-spec =
     within-requires
     returns
     chain-requires
-    survey-requires
+    waiting-edges-requires
+    sources-requires
+    settle-requires
     returns-2
-    lowered-requires
     returns-3)

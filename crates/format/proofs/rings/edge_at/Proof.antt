@@ -1,12 +1,9 @@
 use Prim.Native.Nat.{ℕ}
 use mathlib.Core.Path.{_≡_, sym, ap, _∙_}
-use mathlib.Core.Bool.{true}
 use native.Mathlib.Omega.{arith}
-use borrow.Author.Tests.{not-true, not-false}
 use Rattle.text.specs.declared.Number.the-variants.{Value}
 use Rattle.text.specs.Reading.{numberAt}
-use Rattle.format.specs.Steps.{fitsOf}
-use Rattle.format.proofs.Walking.{named-none, named-unfit, named-edge, fits-below}
+use Rattle.format.proofs.Walking.{fit-below, named-none, named-unfit, named-edge}
 use borrow.Author.Needs.{needs}
 use Rattle.format.proofs.rings.edge_at.Statement.{statement}
 use Rattle.format.proofs.rings.edge_at.Tie as tie
@@ -16,10 +13,6 @@ value : (c : tie.After-wide) → numberAt (c .before .before .before .before .be
 value c =
     let read = c .before .before in
     sym (read .before .before .number-at .ensures) ∙ read .read .given .1 ∙ ap (λ (x : ℕ). Value x (read .read .given .0 .1 .0)) (sym (c .wide .ensures .0))
-
--- it fits
-fit : (c : tie.Else1) → let a = c .before .before .before .before .before .before .before .before .before .args in fitsOf (a .m) (a .tails .now) (a .heads .now) (a .v) (a .seen .now) (c .before .before .before .wide .result) ≡ true
-fit c = sym (c .before .fits2 .ensures) ∙ not-false _ (c .if1 .left)
 
 number-at-requires : tie.Need-number-at-requires
 number-at-requires c κs = search needs
@@ -33,14 +26,15 @@ enum-known-read c = search needs
 wide-requires : tie.Need-wide-requires
 wide-requires c κs = search needs
 
-fits-requires : tie.Need-fits-requires
-fits-requires c κs = search needs
+dart-at-requires : tie.Need-dart-at-requires
+dart-at-requires c κs = search needs
 
 returns : tie.Need-returns
 returns c =
     let w = c .before .before .before in
-    let a = w .before .before .before .before .before .before .args in
-    named-unfit (a .m) (a .tails .now) (a .heads .now) (a .v) (a .seen .now) _ _ _ (value w) (sym (c .before .fits2 .ensures) ∙ not-true _ (c .if1 .taken))
+    let start = w .before .before .before .before .before .before in
+    let a = start .args in
+    named-unfit (a .m) (a .tails .now) (a .heads .now) (a .v) (a .seen .now) _ _ _ (value w) (start .pre .0) _ (c .before .dart-at .ensures) (c .if1 .taken)
 
 add-seen : tie.Need-add-seen
 add-seen c = search needs
@@ -52,10 +46,7 @@ mul-seen : tie.Need-mul-seen
 mul-seen c = search needs
 
 element-write-seen : tie.Need-element-write-seen
-element-write-seen c = omega (arith, fits-below _ _ _ _ _ _ (fit c))
-
-dart-at-requires : tie.Need-dart-at-requires
-dart-at-requires c κs = omega (arith, fits-below _ _ _ _ _ _ (fit c))
+element-write-seen c = let a = c .before .before .before .before .before .before .before .before .before .args in omega (arith, fit-below (a .m) (a .tails .now) (a .heads .now) (a .v) (a .seen .now) (c .before .before .before .wide .result) _ (c .before .dart-at .ensures) (c .if1 .left))
 
 returns-2 : tie.Need-returns-2
 returns-2 c =
@@ -64,9 +55,9 @@ returns-2 c =
 
 returns-3 : tie.Need-returns-3
 returns-3 c =
-    let w = c .before .before .before .before in
+    let w = c .before .before .before in
     let a = w .before .before .before .before .before .before .args in
-    named-edge (a .m) (a .tails .now) (a .heads .now) (a .v) (a .seen .now) _ _ _ (value w) (fit (c .before)) _ (c .dart-at .ensures)
+    named-edge (a .m) (a .tails .now) (a .heads .now) (a .v) (a .seen .now) _ _ _ (value w) _ (c .before .dart-at .ensures) (c .if1 .left)
 
 pub edge-at-spec : {M : Type 1} → statement M
 edge-at-spec =
@@ -76,12 +67,11 @@ edge-at-spec =
     enum-told
     enum-known-read
     wide-requires
-    fits-requires
+    dart-at-requires
     returns
     add-seen
     cast-seen
     mul-seen
     element-write-seen
-    dart-at-requires
     returns-2
     returns-3)
