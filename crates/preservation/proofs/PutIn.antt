@@ -22,7 +22,7 @@ use Rattle.soundness.specs.Maps.{mapOf}
 use Rattle.soundness.proofs.Darts.{dart, dart-kind, dart-below, by-dart, dart-opposite, dart-vertex}
 use Rattle.soundness.proofs.Plane.{plane-of}
 use Rattle.soundness.proofs.Law.{sound-law}
-use Rattle.answers.specs.declared.Answer.the-variants.{NotSound, NotInSheet, RootEdge, Full}
+use Rattle.answers.specs.declared.Answer.the-variants.{Accepted, NotSound, NotInSheet, RootEdge, Full}
 use Rattle.answers.specs.Answers.{refusalNumber}
 use Rattle.counting.proofs.Iterate.{not-false}
 use Rattle.edit.specs.Calls.{noEdge, putInAnswer}
@@ -202,17 +202,31 @@ module _ (s : Sheet) (z : Sized s) (S : Sound s) (k : ℕ) (k-in : k < s .edges)
       kept-sound s′ framed (λ r w u. subdivided-plane P (subdivided r) w u)
       (subdivided-rises {M′ = mapWith s′ (row s)} (P .bipolar) (subdivided (row s)) (row s) (λ d h t. P .bipolar .rises h t))
 
--- an accepted call was not refused for anything
-pub put-in-whole : Put-In-Whole
+-- what an accepted call was given
+pub record Given (s : Sheet) (k : ℕ) : Type 0 where
+  pub is-sound : Sound s
+  pub k-in : k < s .edges
+  pub k-other : k ≢ 0
+  pub n-room : s .vertices < 128
+  pub m-room : s .edges < 256
+
+pub put-in-given : (s : Sheet) (k : ℕ) → Sized s → putInAnswer s k ≡ Accepted → Given s k
 unfolding putInAnswer refusalNumber
-put-in-whole s k z e =
+put-in-given s k z e =
     let a = passed NotSound (not (sound s)) _ (λ q. omega arith) e in
     let b = passed NotInSheet (noEdge s k) _ (λ q. omega arith) (a .1) in
     let c = passed RootEdge (eqb k 0) _ (λ q. omega arith) (b .1) in
     let d = neither (eqb (s .vertices) 128) (eqb (s .edges) 256) (passed Full (eqb (s .vertices) 128 || eqb (s .edges) 256) _ (λ q. omega arith) (c .1) .0) in
     let S = sound-law s z .0 (not-false (sound s) (a .0)) in
-    let n-room : s .vertices < 128 = omega (arith, S .vertices-most, other-number (s .vertices) 128 (d .0)) in
-    let m-room : s .edges < 256 = omega (arith, S .edges-most, other-number (s .edges) 256 (d .1)) in
-    let k-in : k < s .edges = not-at-most (s .edges) k (b .0) in
-    let k-other : k ≢ 0 = other-number k 0 (c .0) in
-    (put-in-sound s z S k k-in k-other n-room m-room, put-in-sized s z S k k-in k-other n-room m-room)
+    record {
+      is-sound = S;
+      k-in = not-at-most (s .edges) k (b .0);
+      k-other = other-number k 0 (c .0);
+      n-room = omega (arith, S .vertices-most, other-number (s .vertices) 128 (d .0));
+      m-room = omega (arith, S .edges-most, other-number (s .edges) 256 (d .1));
+    }
+
+pub put-in-whole : Put-In-Whole
+put-in-whole s k z e =
+    let g = put-in-given s k z e in
+    (put-in-sound s z (g .is-sound) k (g .k-in) (g .k-other) (g .n-room) (g .m-room), put-in-sized s z (g .is-sound) k (g .k-in) (g .k-other) (g .n-room) (g .m-room))
