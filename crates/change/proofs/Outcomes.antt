@@ -1,8 +1,5 @@
 -- What an edit answers, by its answer. Assumes nothing.
 use mathlib.Core.Path.{_≡_, refl, sym, _∙_, ap}
-use Prim.Native.Nat.{ℕ}
-use mathlib.Core.List.{List, map}
-use lib.ListN.{length, length-map}
 use mathlib.Core.Bool.{Bool, true, false, not}
 use borrow.Author.Tests.{not-true, not-false}
 use Rattle.answers.specs.declared.Answer.{Answer}
@@ -12,10 +9,6 @@ use Rattle.answers.proofs.Refusals.{accepted-is}
 use Rattle.sheet.specs.declared.Sheet.{Sheet}
 use Rattle.edit.specs.declared.Edited.{Edited}
 use Rattle.edit.specs.Calls.{edited}
-
--- an array by the length of its type
-pub unmapped : {n : ℕ} (l : List ℕ) → length (map (λ v. v) l) ≡ n → length l ≡ n
-unmapped l e = sym (length-map l (λ v. v)) ∙ e
 
 -- a is the answer that was found, and b whether it is acceptance
 module _ (s : Sheet) (next : Unit {0} → Sheet) (answer a : Answer) (found : a ≡ answer) (b : Bool) (test : b ≡ isAccepted a) where

@@ -6,10 +6,12 @@ ghost use Rattle.sheet.specs.Check.{sound};
 ghost use Rattle.format.specs.Load.{load};
 ghost use Rattle.write.specs.Write.{writeSheet, bufferAfterSheet};
 ghost use Rattle.edit.specs.Lines.{readEdit};
-ghost use Rattle.exports.specs.Edits.{kindOf, numbersIn};
+ghost use Rattle.drawing.specs.Write.{writeDrawing, bufferAfterDrawing};
+ghost use Rattle.exports.specs.Edits.{kindOf, numbersIn, editBy};
 ghost use Rattle.sheet.specs.Darts.{sheetOf};
-ghost use Rattle.exports.specs.Sheets.{Parts, Filled};
+ghost use Rattle.exports.specs.Sheets.{Parts, Changed, Filled};
 use edit::Edit;
+use edit::Edited;
 use sheet::Sheet;
 
 // The level of each node of a digraph; false where there is a circle.
@@ -125,6 +127,91 @@ pub extern "C" fn walnut_write_sheet(
         nexts: n,
     };
     let written = write::write_sheet(sheet, buffer);
+    *count = written.count;
+    let answer = written.answer;
+    answers::refusal_number(answer)
+}
+
+// One of the four edits by its kind: 0 in, 1 run, 2 out, any other off. The numbers past those that it has are not looked at.
+fn edit_by(kind: u16, s: Sheet, a: usize, p: usize, b: usize, q: usize) -> Edited
+    ensures { λ r. ⌜ r ≡ editBy kind a p b q s ⌝ }
+{
+    if kind == 0 {
+        return change::put_in(s, a);
+    }
+    if kind == 1 {
+        return run::run(s, a, p, b, q);
+    }
+    if kind == 2 {
+        return takeout::take_out_edge(s, a);
+    }
+    takeout::take_out_vertex(s, a)
+}
+
+// An edit. The sheet is lent in parts, and the sheet that the edit returns takes its place.
+#[no_mangle]
+pub extern "C" fn walnut_edit(
+    kind: u16,
+    a: usize,
+    p: usize,
+    b: usize,
+    q: usize,
+    vertices: &mut usize,
+    edges: &mut usize,
+    tails: &mut [u16; 256],
+    heads: &mut [u16; 256],
+    nexts: &mut [u16; 512],
+) -> u16
+    ensures { λ r. ⌜ Changed (editBy kind a p b q (sheetOf (now (vertices .entry)) (now (edges .entry)) (now (tails .entry)) (now (heads .entry)) (now (nexts .entry)))) r (now (vertices .exit)) (now (edges .exit)) (now (tails .exit)) (now (heads .exit)) (now (nexts .exit)) ⌝ }
+{
+    let old_tails = *tails;
+    let old_heads = *heads;
+    let old_nexts = *nexts;
+    let present = Sheet {
+        vertices: *vertices,
+        edges: *edges,
+        tails: old_tails,
+        heads: old_heads,
+        nexts: old_nexts,
+    };
+    let edited = edit_by(kind, present, a, p, b, q);
+    let sheet = edited.sheet;
+    let new_tails = sheet.tails;
+    let new_heads = sheet.heads;
+    let new_nexts = sheet.nexts;
+    *vertices = sheet.vertices;
+    *edges = sheet.edges;
+    *tails = new_tails;
+    *heads = new_heads;
+    *nexts = new_nexts;
+    let answer = edited.answer;
+    answers::refusal_number(answer)
+}
+
+// Write drawing.
+#[no_mangle]
+pub extern "C" fn walnut_write_drawing(
+    vertices: usize,
+    edges: usize,
+    tails: &[u16; 256],
+    heads: &[u16; 256],
+    nexts: &[u16; 512],
+    buffer: &mut [u8],
+    count: &mut usize,
+) -> u16
+    ensures { λ r. ⌜ Filled (writeDrawing (sheetOf vertices edges (now (tails .entry)) (now (heads .entry)) (now (nexts .entry))) (now (buffer .entry))) (bufferAfterDrawing (sheetOf vertices edges (now (tails .entry)) (now (heads .entry)) (now (nexts .entry))) (now (buffer .entry))) r (now (count .exit)) (now (buffer .exit)) ⌝ }
+{
+    let t = *tails;
+    let h = *heads;
+    let n = *nexts;
+    let sheet = Sheet {
+        vertices,
+        edges,
+        tails: t,
+        heads: h,
+        nexts: n,
+    };
+    let written = drawtext::write_drawing(sheet, buffer);
     *count = written.count;
     let answer = written.answer;
     answers::refusal_number(answer)

@@ -3,7 +3,7 @@
 //! The declarations below are the C names that the crate `exports` gives the calls. Nothing checks them against the
 //! source, so this file is the only place that has them.
 
-use reference::Sheet;
+use reference::{Edit, Sheet};
 
 mod calls {
     extern "C" {
@@ -33,6 +33,28 @@ mod calls {
             taken: &mut usize,
         ) -> u16;
         pub fn walnut_write_sheet(
+            vertices: usize,
+            edges: usize,
+            tails: &[u16; 256],
+            heads: &[u16; 256],
+            nexts: &[u16; 512],
+            buffer: *mut u8,
+            length: usize,
+            count: &mut usize,
+        ) -> u16;
+        pub fn walnut_edit(
+            kind: u16,
+            a: usize,
+            p: usize,
+            b: usize,
+            q: usize,
+            vertices: &mut usize,
+            edges: &mut usize,
+            tails: &mut [u16; 256],
+            heads: &mut [u16; 256],
+            nexts: &mut [u16; 512],
+        ) -> u16;
+        pub fn walnut_write_drawing(
             vertices: usize,
             edges: usize,
             tails: &[u16; 256],
@@ -95,6 +117,50 @@ pub fn write_sheet(sheet: &Sheet, buffer: &mut [u8]) -> (u16, usize) {
     let mut count = 0;
     let number = unsafe {
         calls::walnut_write_sheet(
+            sheet.vertices,
+            sheet.edges,
+            &sheet.tails,
+            &sheet.heads,
+            &sheet.nexts,
+            buffer.as_mut_ptr(),
+            buffer.len(),
+            &mut count,
+        )
+    };
+    (number, count)
+}
+
+/// An edit: the answer's number (0 for acceptance) and the sheet returned.
+pub fn edit(sheet: &Sheet, edit: Edit) -> (u16, Sheet) {
+    let (kind, [a, p, b, q]) = match edit {
+        Edit::In(k) => (0, [k, 0, 0, 0]),
+        Edit::Run(a, p, b, q) => (1, [a, p, b, q]),
+        Edit::Out(k) => (2, [k, 0, 0, 0]),
+        Edit::Off(v) => (3, [v, 0, 0, 0]),
+    };
+    let mut after = *sheet;
+    let number = unsafe {
+        calls::walnut_edit(
+            kind,
+            a,
+            p,
+            b,
+            q,
+            &mut after.vertices,
+            &mut after.edges,
+            &mut after.tails,
+            &mut after.heads,
+            &mut after.nexts,
+        )
+    };
+    (number, after)
+}
+
+/// Write drawing: the answer's number and the count of bytes written to the front of the buffer.
+pub fn write_drawing(sheet: &Sheet, buffer: &mut [u8]) -> (u16, usize) {
+    let mut count = 0;
+    let number = unsafe {
+        calls::walnut_write_drawing(
             sheet.vertices,
             sheet.edges,
             &sheet.tails,

@@ -1,7 +1,8 @@
 use borrow.Author.Needs.{needs}
+use Rattle.counting.proofs.Stores.{unmapped}
 use Rattle.sheet.specs.Darts.{Sized}
 use Rattle.edit.specs.Changes.{putIn}
-use Rattle.change.proofs.Outcomes.{unmapped, refused-edit, was-accepted, accepted-edit}
+use Rattle.change.proofs.Outcomes.{refused-edit, was-accepted, accepted-edit}
 use Rattle.preservation.proofs.PutIn.{put-in-given}
 use Rattle.change.proofs.put_in.Statement.{statement}
 use Rattle.change.proofs.put_in.Tie as tie

@@ -1,11 +1,9 @@
-use Prim.Native.Nat.{ℕ}
 use mathlib.Core.Path.{_≡_, sym, _∙_}
 use mathlib.Core.Bool.{true}
-use mathlib.Core.List.{List, map}
 use native.Mathlib.Omega.{arith}
-use lib.ListN.{length, length-map}
 use borrow.Author.Tests.{not-true, not-false}
 use borrow.Author.Needs.{needs}
+use Rattle.counting.proofs.Stores.{unmapped}
 use Rattle.sheet.specs.Sound.{Sound}
 use Rattle.sheet.specs.Check.{sound}
 use Rattle.sheet.specs.Darts.{Sized}
@@ -13,9 +11,6 @@ use Rattle.soundness.proofs.Law.{sound-law}
 use Rattle.write.proofs.Outcomes.{not-sound, too-short, text-put}
 use Rattle.write.proofs.write_sheet.Statement.{statement}
 use Rattle.write.proofs.write_sheet.Tie as tie
-
-unmapped : {n : ℕ} (l : List ℕ) → length (map (λ v. v) l) ≡ n → length l ≡ n
-unmapped l e = sym (length-map l (λ v. v)) ∙ e
 
 -- the arrays have the lengths of their types
 sized : (c : tie.Start) → Sized (c .args .s)
