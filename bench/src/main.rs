@@ -3,8 +3,8 @@
 //! Each figure is the least time of a call over many short batches, which leaves out what else the machine does; the
 //! two sides take turns batch by batch.
 
-use reference::generate::{digraph, grown, permutation, sheet_text, sheets, Random};
-use reference::Sheet;
+use reference::generate::{digraph, edits, grown, permutation, sheet_text, sheets, Random};
+use reference::{Edit, Sheet};
 use std::hint::black_box;
 use std::time::Instant;
 
@@ -85,6 +85,33 @@ fn compare_sheet(what: &str, sheet: &Sheet) {
             black_box(reference::write_sheet(black_box(sheet), &mut theirs));
         },
     );
+    compare(
+        &format!("write_drawing, {what}"),
+        || {
+            black_box(proved::write_drawing(black_box(sheet), &mut ours));
+        },
+        || {
+            black_box(reference::write_drawing(black_box(sheet), &mut theirs));
+        },
+    );
+}
+
+fn compare_edit(what: &str, sheet: &Sheet, edit: Edit) {
+    assert!(reference::apply(sheet, edit).0.is_ok(), "{edit:?} is accepted");
+    compare(
+        &format!("{what}, 100 bars and 200 wires"),
+        || {
+            black_box(proved::edit(black_box(sheet), edit));
+        },
+        || {
+            black_box(reference::apply(black_box(sheet), edit));
+        },
+    );
+}
+
+/// The first edit of a list that is accepted.
+fn accepted(sheet: &Sheet, mut edits: impl Iterator<Item = Edit>) -> Edit {
+    edits.find(|&edit| reference::apply(sheet, edit).0.is_ok()).expect("an edit that is accepted")
 }
 
 fn main() {
@@ -103,4 +130,11 @@ fn main() {
     compare_sheet("random, 128 bars and 256 wires", &grown(random, 128, 256));
     compare_sheet("2 bars with 256 wires", &sheets::parallel(256));
     compare_sheet("a path of 128 bars numbered backwards", &sheets::backward(&sheets::path(128)));
+    let sheet = grown(random, 100, 200);
+    let run = accepted(&sheet, std::iter::repeat_with(|| edits::run_in_one_face(random, &sheet)));
+    compare_edit("put in", &sheet, Edit::In(7));
+    compare_edit("run", &sheet, run);
+    compare_edit("take out a wire", &sheet, accepted(&sheet, (1..200).map(Edit::Out)));
+    let sheet = reference::apply(&sheet, Edit::In(7)).1;
+    compare_edit("take out a bar", &sheet, Edit::Off(100));
 }

@@ -2,24 +2,20 @@
 use Prim.Native.Nat.{ℕ}
 use mathlib.Core.Path.{_≡_, refl, sym, _∙_, ap}
 use mathlib.Core.Logic.{_≢_}
-use mathlib.Core.Bool.{Bool, true, false, not, false≢true}
+use mathlib.Core.Bool.{true, false, false≢true}
 use mathlib.Core.List.{List, [], _∷_}
 use Rattle.counting.proofs.Iterate.{by-bool}
 use Rattle.answers.specs.declared.Answer.{Answer}
-use Rattle.answers.specs.declared.Answer.the-variants.{Accepted, NotSound}
-use Rattle.answers.specs.Answers.{refusalNumber}
-use Rattle.answers.specs.Refusals.{first, _if_, isAccepted}
+use Rattle.answers.specs.declared.Answer.the-variants.{Accepted}
+use Rattle.answers.specs.Refusals.{isAccepted}
 use Rattle.answers.proofs.Refusals.{accepted-is, accepts-accepted}
 use Rattle.sheet.specs.declared.Sheet.{Sheet}
-use Rattle.sheet.specs.Darts.{Sized}
 use Rattle.sheet.specs.Fresh.{freshSheet}
 use Rattle.sheet.specs.Sound.{Sound}
-use Rattle.sheet.specs.Check.{sound}
 use Rattle.soundness.proofs.Law.{sound-law}
 use Rattle.soundness.proofs.Fresh.{fresh-law, fresh-sized}
 use Rattle.format.specs.Load.{Parsed, parsed, refused, parse, loaded, load}
 use Rattle.roundtrip.proofs.Loaded.{loaded-sound}
-use Rattle.edit.specs.declared.Edited.{Edited}
 use Rattle.edit.specs.Changes.{putIn, runEdge, takeOutEdge, takeOutVertex}
 use Rattle.edit.specs.Calls.{putInAnswer, runAnswer, takeOutEdgeAnswer, takeOutVertexAnswer, edited}
 use Rattle.preservation.specs.Laws.{Whole}
@@ -27,7 +23,7 @@ use Rattle.preservation.proofs.PutIn.{put-in-whole}
 use Rattle.preservation.proofs.RunEdge.{run-whole}
 use Rattle.preservation.proofs.TakeOutEdge.{take-out-edge-whole}
 use Rattle.preservation.proofs.TakeOutVertex.{take-out-vertex-whole}
-use Rattle.drawing.specs.Draw.{drawAnswer, drawCall, drawingOf}
+use Rattle.drawing.proofs.Answered.{sound-drawn}
 use Rattle.drawing.proofs.Right.{drawing-right}
 use Rattle.demand.specs.Calls.{Call, Outcome, outcome, ofEdit, after}
 use Rattle.demand.specs.Calls.Call.{load-text, put-in, run, take-out-edge, take-out-vertex}
@@ -82,12 +78,7 @@ unfolding after
 after-whole s w [] = w
 after-whole s w (c ∷ cs) = after-whole (outcome s c .sheet) (call-left s w c .whole) cs
 
--- a sound sheet has its drawing
-drawn : (s : Sheet) → Whole s → drawCall s ≡ record { answer = Accepted; drawing = drawingOf s }
-unfolding drawCall drawAnswer first isAccepted refusalNumber
-drawn s w = rw (sound-law s (w .1) .1 (w .0)) refl
-
 pub demand : Demand
 demand cs =
     let w = after-whole freshSheet (fresh-law, fresh-sized) cs in
-    record { answers = each freshSheet (fresh-law, fresh-sized) cs; sound = w .0; drawn = drawn (after freshSheet cs) w; right = drawing-right (w .0) }
+    record { answers = each freshSheet (fresh-law, fresh-sized) cs; sound = w .0; drawn = sound-drawn (after freshSheet cs) (sound-law (after freshSheet cs) (w .1) .1 (w .0)); right = drawing-right (w .0) }

@@ -4,3 +4,4 @@ pub mod Contact
 pub mod Rings
 pub mod Order
 pub mod Right
+pub mod Answered

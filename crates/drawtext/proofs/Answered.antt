@@ -18,6 +18,7 @@ use Rattle.write.proofs.Outcomes.{not-sound, too-short, text-put}
 use Rattle.drawing.specs.declared.Drawing.{Drawing}
 use Rattle.drawing.specs.declared.Drawn.{Drawn}
 use Rattle.drawing.specs.Draw.{drawingOf, drawAnswer, drawCall}
+use Rattle.drawing.proofs.Answered.{sound-drawn}
 use Rattle.drawing.specs.Write.{drawingText, writeDrawing, bufferAfterDrawing}
 
 -- the answer w to a call that left `out` of the buffer
@@ -35,12 +36,7 @@ accepts-sound s = by-bool (sound s) (λ e. rw e refl) (λ e. rw e refl)
 
 -- of a sound sheet
 module _ (s : Sheet) (e : sound s ≡ true) where
-  -- draw answers its drawing
-  pub sound-drawn : drawCall s ≡ record { answer = Accepted; drawing = drawingOf s }
-  unfolding drawCall drawAnswer first isAccepted refusalNumber
-  sound-drawn = rw e refl
-
-  -- and the text of that drawing is written
+  -- the text of its drawing is written
   module _ (d : Drawing) (q : d ≡ drawingOf s) (buffer : List ℕ) where
     pub short-buffer : length buffer < length (textFor s d) → Outcome s buffer (record { answer = BufferTooShort; count = 0 }) buffer
     short-buffer h = too-short s _ buffer e (rw q at h)

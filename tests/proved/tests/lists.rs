@@ -36,7 +36,8 @@ fn lists_of_loads_and_edits_agree() {
         for step in 0..80 {
             let number = match random.below(20) {
                 0 => {
-                    let text = sheet_text(random, &random_sheet(random));
+                    let loaded = random_sheet(random);
+                    let text = sheet_text(random, &loaded);
                     let text = if random.one_in(2) { damaged(random, &text) } else { text };
                     let (answer, expected, taken) = reference::load(&text, &sheet);
                     let ours = proved::load(&text, &sheet);
