@@ -1,4 +1,4 @@
-// The four edits of a sheet.
+// Put in; and what every edit answers with.
 ghost use mathlib.Core.Path.{_≡_};
 ghost use Prim.Native.Nat.{_<_};
 ghost use Rattle.answers.specs.declared.Answer.the-variants.{Accepted};

@@ -1,1 +1,1 @@
-// A list of calls on a sheet, and the program as a function from bytes to bytes; no function yet.
+// The program as a function from bytes to bytes, and the plates of document 01; no function yet.

@@ -112,11 +112,23 @@ pub fn load(text: &[u8], present: &Sheet) -> (u16, Sheet, usize) {
     (number, sheet, taken)
 }
 
-/// Write sheet: the answer's number and the count of bytes written to the front of the buffer.
-pub fn write_sheet(sheet: &Sheet, buffer: &mut [u8]) -> (u16, usize) {
+/// A writer under its C name.
+type Writer = unsafe extern "C" fn(
+    usize,
+    usize,
+    &[u16; 256],
+    &[u16; 256],
+    &[u16; 512],
+    *mut u8,
+    usize,
+    &mut usize,
+) -> u16;
+
+/// The answer's number of a writer and the count of bytes written to the front of the buffer.
+fn write(writer: Writer, sheet: &Sheet, buffer: &mut [u8]) -> (u16, usize) {
     let mut count = 0;
     let number = unsafe {
-        calls::walnut_write_sheet(
+        writer(
             sheet.vertices,
             sheet.edges,
             &sheet.tails,
@@ -128,6 +140,16 @@ pub fn write_sheet(sheet: &Sheet, buffer: &mut [u8]) -> (u16, usize) {
         )
     };
     (number, count)
+}
+
+/// Write sheet.
+pub fn write_sheet(sheet: &Sheet, buffer: &mut [u8]) -> (u16, usize) {
+    write(calls::walnut_write_sheet, sheet, buffer)
+}
+
+/// Write drawing.
+pub fn write_drawing(sheet: &Sheet, buffer: &mut [u8]) -> (u16, usize) {
+    write(calls::walnut_write_drawing, sheet, buffer)
 }
 
 /// An edit: the answer's number (0 for acceptance) and the sheet returned.
@@ -154,24 +176,6 @@ pub fn edit(sheet: &Sheet, edit: Edit) -> (u16, Sheet) {
         )
     };
     (number, after)
-}
-
-/// Write drawing: the answer's number and the count of bytes written to the front of the buffer.
-pub fn write_drawing(sheet: &Sheet, buffer: &mut [u8]) -> (u16, usize) {
-    let mut count = 0;
-    let number = unsafe {
-        calls::walnut_write_drawing(
-            sheet.vertices,
-            sheet.edges,
-            &sheet.tails,
-            &sheet.heads,
-            &sheet.nexts,
-            buffer.as_mut_ptr(),
-            buffer.len(),
-            &mut count,
-        )
-    };
-    (number, count)
 }
 
 /// The edit at the front of a text as its kind (0 in, 1 run, 2 out, 3 off, 4 refused) with its numbers, and the bytes taken.
