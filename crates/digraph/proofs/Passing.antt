@@ -6,9 +6,10 @@ use mathlib.Core.List.{List}
 use Prim.Native.Nat.{ℕ, suc, _+_, _-_, _≤_, _<_}
 use native.Mathlib.Decide.{ℕ-discrete}
 use native.Mathlib.Omega.{arith}
+use lib.Dec.{eqb}
 use lib.ListN.{getD, set, length}
-use lib.Seq.{getD-set-other, set-getD}
-use Rattle.counting.specs.Counts.{count}
+use lib.Seq.{getD-set-other}
+use Rattle.counting.specs.Counts.{bit, count}
 use Rattle.counting.proofs.Counts.{without, without-same, without-other, count-without}
 use Rattle.counting.proofs.Stores.{Stored, stored}
 use Rattle.counting.proofs.Stores.Stored.{here as same, apart as other}
@@ -18,7 +19,7 @@ use Rattle.digraph.specs.Chains.Listed.{head as at-head, later}
 use Rattle.digraph.specs.Passes.{Queued, Listing, Progress, Settled}
 use Rattle.digraph.proofs.Relaxation.{raised-kept, raised-above, raised-sound}
 use Rattle.digraph.proofs.Chaining.{listed-in, list-in, split}
-use Rattle.digraph.proofs.Waits.{some, waiting-less, once, room, queue-still, queue-push}
+use Rattle.digraph.proofs.Waits.{some, waiting-less, once, room, queue-passed}
 
 -- what fails `without p k` is k, or fails p
 without-false : (p : ℕ → Bool) (k j : ℕ) → without p k j ≡ false → (j ≡ k) ⊎ (p j ≡ false)
@@ -26,16 +27,6 @@ without-false p k j f = by-cases (ℕ-discrete j k) inl (λ n. inr (sym (without
 
 without-kept : (p : ℕ → Bool) (k j : ℕ) → p j ≡ false → without p k j ≡ false
 without-kept p k j f = by-cases (ℕ-discrete j k) (λ e. rw e (without-same p k)) (λ n. without-other p n ∙ f)
-
--- a level raised above d where it is not
-module _ (level : List ℕ) (w d : ℕ) {level′ : List ℕ} where
-  pub raise : getD level w 0 ≤ d → level′ ≡ set level w (d + 1) → level′ ≡ set level w (higherOf (getD level w 0) d)
-  raise h e = let m : d + 1 ≡ higherOf (getD level w 0) d = omega arith in e ∙ ap (set level w) m
-
-  pub high-already : d < getD level w 0 → level′ ≡ level → level′ ≡ set level w (higherOf (getD level w 0) d)
-  high-already h e =
-      let m : getD level w 0 ≡ higherOf (getD level w 0) d = omega arith in
-      e ∙ sym (set-getD level w 0) ∙ ap (set level w) m
 
 module _ {edges : ℕ} {to first after : List ℕ} (G : Listing edges to first after) where
   -- ---- one edge
@@ -187,16 +178,9 @@ module _ {edges : ℕ} {to first after : List ℕ} (G : Listing edges to first a
           inside = omega (arith, T .inside);
         }
 
-        -- other edges wait for its end
-        pub next-still : getD waiting w 0 - 1 ≢ 0 → Turn head v d k′ (set waiting w (getD waiting w 0 - 1)) level′ queue tail
-        next-still n =
-            turn (queue-still (T .progress .queued) (G .within .few-nodes) (T .progress .waiting-in .size) w end-in edge-waits n)
-            (λ i l. refl) (omega arith)
-
-        -- none does now
-        pub next-push : getD waiting w 0 - 1 ≡ 0 → Turn head v d k′ (set waiting w (getD waiting w 0 - 1)) level′ (set queue tail w) (tail + 1)
-        next-push z =
-            turn (queue-push (T .progress .queued) (G .within .few-nodes) (T .progress .waiting-in .size) w end-in edge-waits z)
+        pub next : (t : ℕ) → t ≡ bit (eqb (getD waiting w 0 - 1) 0) → Turn head v d k′ (set waiting w (getD waiting w 0 - 1)) level′ (set queue tail w) (tail + t)
+        next t e =
+            turn (queue-passed (T .progress .queued) (G .within .few-nodes) (T .progress .waiting-in .size) w end-in edge-waits t e)
             (λ i l. getD-set-other queue tail i w 0 (omega arith)) (omega arith)
 
     -- the edges out of v are passed

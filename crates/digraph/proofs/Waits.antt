@@ -99,13 +99,33 @@ module _ {n : ℕ} {waiting queue : List ℕ} {tail : ℕ} (Q : Queued n waiting
       many = many;
     }
 
+-- what is stored past its end changes nothing
+queue-past : {n : ℕ} {waiting queue : List ℕ} {tail : ℕ} → Queued n waiting queue tail → (x : ℕ) → Queued n waiting (set queue tail x) tail
+queue-past {queue} {tail} Q x = record {
+  size = length-set queue tail x ∙ Q .size;
+  node = λ i l. rw (entry i l) (Q .node i l);
+  none = λ i l. rw (entry i l) (Q .none i l);
+  all = λ w b z. let (i, l, q) = Q .all w b z in (i, l, entry i l ∙ q);
+  many = Q .many;
+}
+  where
+    entry : (i : ℕ) → i < tail → getD (set queue tail x) i 0 ≡ getD queue i 0
+    entry i l = getD-set-other queue tail i x 0 (omega arith)
+
+-- an end that moves on by a test
+moved : {n : ℕ} {waiting queue : List ℕ} {tail : ℕ} (x y : ℕ) → (y ≢ 0 → Queued n waiting queue tail) → (y ≡ 0 → Queued n waiting (set queue tail x) (tail + 1))
+    → (t : ℕ) → t ≡ bit (eqb y 0) → Queued n waiting (set queue tail x) (tail + t)
+moved {tail} x y still push t e = by-cases (ℕ-discrete y 0)
+    (λ z. let q : t ≡ 1 = e ∙ ap bit (eq-eqb y 0 z) in rw q (push z))
+    (λ z. let q : tail + t ≡ tail = omega (arith, e ∙ ap bit (ne-eqb y 0 z)) in rw q (queue-past (still z) x))
+
 pub queue-none : (waiting : List ℕ) {queue : List ℕ} → length queue ≡ 256 → Queued 0 waiting queue 0
 unfolding count
 queue-none waiting s = record { size = s; node = λ i l. absurd (omega arith); none = λ i l. absurd (omega arith); all = λ w l. absurd (omega arith); many = refl }
 
 -- the nodes one by one
 module _ {v : ℕ} {waiting queue : List ℕ} {tail : ℕ} (Q : Queued v waiting queue tail) where
-  pub queue-skip : getD waiting v 0 ≢ 0 → Queued (v + 1) waiting queue tail
+  queue-skip : getD waiting v 0 ≢ 0 → Queued (v + 1) waiting queue tail
   unfolding count
   queue-skip n = record {
     size = Q .size;
@@ -115,11 +135,14 @@ module _ {v : ℕ} {waiting queue : List ℕ} {tail : ℕ} (Q : Queued v waiting
     many = rw (add-one v) (omega (arith, ap bit (ne-eqb (getD waiting v 0) 0 n), Q .many));
   }
 
-  pub queue-more : getD waiting v 0 ≡ 0 → v < 256 → Queued (v + 1) waiting (set queue tail v) (tail + 1)
+  queue-more : getD waiting v 0 ≡ 0 → v < 256 → Queued (v + 1) waiting (set queue tail v) (tail + 1)
   unfolding count
   queue-more z h =
       grown Q (v + 1) waiting v (omega (arith, tail-in Q)) (omega arith) (omega arith) z (Q .none) (λ w b y n. (omega arith, y))
       (rw (add-one v) (omega (arith, ap bit (eq-eqb (getD waiting v 0) 0 z), Q .many)))
+
+  pub queue-next : v < 256 → (t : ℕ) → t ≡ bit (eqb (getD waiting v 0) 0) → Queued (v + 1) waiting (set queue tail v) (tail + t)
+  queue-next h = moved v (getD waiting v 0) queue-skip (λ z. queue-more z h)
 
 -- one edge less waits for w
 module _ {n : ℕ} {waiting queue : List ℕ} {tail : ℕ} (Q : Queued n waiting queue tail) (few : n ≤ 256) (size : length waiting ≡ 256)
@@ -144,7 +167,7 @@ module _ {n : ℕ} {waiting queue : List ℕ} {tail : ℕ} (Q : Queued n waiting
   room = omega (arith, count-less (ready waiting) n w in-w unready, Q .many)
 
   -- others wait for it
-  pub queue-still : getD waiting w 0 - 1 ≢ 0 → Queued n less queue tail
+  queue-still : getD waiting w 0 - 1 ≢ 0 → Queued n less queue tail
   queue-still s = record {
     size = Q .size;
     node = Q .node;
@@ -154,8 +177,11 @@ module _ {n : ℕ} {waiting queue : List ℕ} {tail : ℕ} (Q : Queued n waiting
   }
 
   -- none waits for it now
-  pub queue-push : getD waiting w 0 - 1 ≡ 0 → Queued n less (set queue tail w) (tail + 1)
+  queue-push : getD waiting w 0 - 1 ≡ 0 → Queued n less (set queue tail w) (tail + 1)
   queue-push z =
       let counted : count (without (ready less) w) n ≡ count (ready waiting) n = count-agree _ _ n (λ x _. by-cases (ℕ-discrete x w) (λ e. rw e (without-same (ready less) w ∙ sym unready)) (λ e. without-other (ready less) e ∙ ap (λ y. eqb y 0) (off-w x e))) in
       grown Q n less w room (omega arith) in-w (now-w ∙ z) kept (λ x b y e. (b, sym (off-w x e) ∙ y))
       (omega (arith, count-without (ready less) n w in-w (eq-eqb (getD less w 0) 0 (now-w ∙ z)), counted, Q .many))
+
+  pub queue-passed : (t : ℕ) → t ≡ bit (eqb (getD waiting w 0 - 1) 0) → Queued n less (set queue tail w) (tail + t)
+  queue-passed = moved w (getD waiting w 0 - 1) queue-still queue-push

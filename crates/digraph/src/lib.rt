@@ -3,9 +3,10 @@ ghost use mathlib.Core.Path.{_≡_};
 ghost use mathlib.Core.Bool.{true};
 ghost use Prim.Native.Nat.{ℕ, _+_, _≤_, _<_};
 ghost use lib.ListN.{getD, length};
-ghost use Rattle.digraph.specs.Relaxed.{withinOf, levelsOf};
+ghost use Rattle.digraph.specs.Relaxed.{withinOf, higherOf, levelsOf};
 ghost use Rattle.digraph.specs.Chains.{Chained};
 ghost use Rattle.digraph.specs.Passes.{Waiting, Queued, Underway, Onward};
+use counting::bit;
 use counting::wide;
 
 pub struct Layering {
@@ -38,8 +39,8 @@ fn within(nodes: usize, edges: usize, from: &[u16; 256], to: &[u16; 256]) -> boo
 
 // A list of edges for each node, by one end of the edges: the first edge at the node, and after each edge the next.
 struct Chains {
-    first: [usize; 256],
-    after: [usize; 256],
+    first: [u16; 256],
+    after: [u16; 256],
 }
 
 // The lists of the edges by their ends `ends`, made from the last edge down.
@@ -47,14 +48,14 @@ fn chain(edges: usize, ends: &[u16; 256]) -> Chains
     requires { ⌜ (edges ≤ 256) × ((k : ℕ) → k < edges → getD (now ends) k 0 < 256) ⌝ }
     ensures { λ r. ⌜ Chained 0 edges (now (ends .entry)) (r .first) (r .after) ⌝ }
 {
-    let mut first = [256usize; 256];
-    let mut after = [256usize; 256];
+    let mut first = [256u16; 256];
+    let mut after = [256u16; 256];
     let mut k = edges;
     while 0 < k {
         k -= 1;
         let v = wide(ends[k]);
         after[k] = first[v];
-        first[v] = k;
+        first[v] = k as u16;
     }
     Chains { first, after }
 }
@@ -75,54 +76,56 @@ fn waiting_edges(edges: usize, to: &[u16; 256]) -> [u16; 256]
 }
 
 // Puts the nodes for which no edge waits in the queue; returns how many there are.
-fn sources(nodes: usize, waiting: &[u16; 256], queue: &mut [usize; 256]) -> usize
+fn sources(nodes: usize, waiting: &[u16; 256], queue: &mut [u16; 256]) -> usize
     requires { ⌜ (nodes ≤ 256) × (length (now queue) ≡ 256) ⌝ }
     ensures { λ r. ⌜ Queued nodes (now (waiting .entry)) (now (queue .exit)) r ⌝ }
 {
     let mut tail = 0;
     let mut v = 0;
     while v < nodes {
-        if waiting[v] == 0 {
-            queue[tail] = v;
-            tail += 1;
-        }
+        queue[tail] = v as u16;
+        tail += bit(waiting[v] == 0);
         v += 1;
     }
     tail
 }
 
+// A level, or one above d where that is more.
+fn higher(level: u16, d: u16) -> u16
+    requires { ⌜ d < 65535 ⌝ }
+    ensures { λ r. ⌜ r ≡ higherOf level d ⌝ }
+{
+    if level <= d { d + 1 } else { level }
+}
+
 // Passes the edges out of the node at `head` of the queue: the end of each is raised above that node, and goes into the queue where no
-// other edge waits for it. Returns the queue's new end.
+// other edge waits for it: it is stored past the queue's end, which moves on only then. Returns the queue's new end.
 fn pass(
     head: usize,
     edges: usize,
     to: &[u16; 256],
-    first: &[usize; 256],
-    after: &[usize; 256],
+    first: &[u16; 256],
+    after: &[u16; 256],
     waiting: &mut [u16; 256],
     level: &mut [u16; 256],
-    queue: &mut [usize; 256],
+    queue: &mut [u16; 256],
     end: usize,
 ) -> usize
     requires { ⌜ (head < end) × Underway edges (now to) (now first) (now after) head (now waiting) (now level) (now queue) end ⌝ }
     ensures { λ r. ⌜ Onward edges (now (to .entry)) (now (first .entry)) (now (after .entry)) head (now (waiting .entry)) (now (level .entry)) (now (queue .entry)) end (head + 1) (now (waiting .exit)) (now (level .exit)) (now (queue .exit)) r ⌝ }
 {
-    let v = queue[head];
+    let v = wide(queue[head]);
     let d = level[v];
     let mut tail = end;
-    let mut k = first[v];
+    let mut k = wide(first[v]);
     while k < edges {
         let w = wide(to[k]);
-        if level[w] <= d {
-            level[w] = d + 1;
-        }
+        level[w] = higher(level[w], d);
         let left = waiting[w] - 1;
         waiting[w] = left;
-        if left == 0 {
-            queue[tail] = w;
-            tail += 1;
-        }
-        k = after[k];
+        queue[tail] = w as u16;
+        tail += bit(left == 0);
+        k = wide(after[k]);
     }
     tail
 }
@@ -131,11 +134,11 @@ fn pass(
 fn settle(
     edges: usize,
     to: &[u16; 256],
-    first: &[usize; 256],
-    after: &[usize; 256],
+    first: &[u16; 256],
+    after: &[u16; 256],
     waiting: &mut [u16; 256],
     level: &mut [u16; 256],
-    queue: &mut [usize; 256],
+    queue: &mut [u16; 256],
     end: usize,
 ) -> usize
     requires { ⌜ Underway edges (now to) (now first) (now after) 0 (now waiting) (now level) (now queue) end ⌝ }
@@ -166,7 +169,7 @@ pub fn levels(nodes: usize, edges: usize, from: &[u16; 256], to: &[u16; 256]) ->
     let first = c.first;
     let after = c.after;
     let mut waiting = waiting_edges(edges, to);
-    let mut queue = [0usize; 256];
+    let mut queue = [0u16; 256];
     let end = sources(nodes, &waiting, &mut queue);
     let mut level = [0u16; 256];
     let queued = settle(

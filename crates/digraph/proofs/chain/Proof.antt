@@ -47,6 +47,9 @@ mul-after-2 c = search needs
 array-write-after : tie.Need-array-write-after Inv-loop μ-loop
 array-write-after c = search needs
 
+cast-first : tie.Need-cast-first Inv-loop μ-loop
+cast-first c = search needs
+
 mul-first : tie.Need-mul-first Inv-loop μ-loop
 mul-first c = omega (arith, end-in c)
 
@@ -81,6 +84,7 @@ chain-spec =
     array-read-after
     mul-after-2
     array-write-after
+    cast-first
     mul-first
     array-write-first
     loop-less

@@ -1,13 +1,12 @@
 -- `pass` meets its contract: its loop's invariant is `Turn`, of every digraph with these lists. Assumes nothing.
-use mathlib.Core.Path.{refl}
-use mathlib.Core.Logic.{⊎-elim}
+use mathlib.Core.Path.{_≡_, refl, sym, ap, _∙_}
 use Prim.Native.Nat.{_-_, _<_}
 use native.Mathlib.Omega.{arith}
-use lib.ListN.{getD}
+use lib.ListN.{getD, set}
 use borrow.Author.Needs.{needs}
 use Rattle.digraph.specs.Passes.{Listing, Settled}
 use Rattle.digraph.proofs.Waits.{tail-in}
-use Rattle.digraph.proofs.Passing.{raise, high-already, Turn, begin, low-level, edge-waits, end-in, end-room, next-still, next-push, finish}
+use Rattle.digraph.proofs.Passing.{Turn, begin, low-level, edge-waits, end-in, end-room, next, finish}
 use Rattle.digraph.proofs.pass.Statement.{statement}
 use Rattle.digraph.proofs.pass.Tie as tie
 
@@ -24,87 +23,99 @@ in-head c =
     let u = c .pre .1 in
     omega (arith, c .pre .0, tail-in (u .settled .progress .queued), u .listing .within .few-nodes)
 
-mul-v : tie.Need-mul-v Inv-loop μ-loop
-mul-v c = omega (arith, in-head c)
-
-element-copy-out-v : tie.Need-element-copy-out-v Inv-loop μ-loop
-element-copy-out-v c = in-head c
-
--- the node at the queue's head
-in-v : (c : tie.Start Inv-loop μ-loop) → getD (c .args .queue .now) (c .args .head) 0 < 256
-in-v c =
-    let u = c .pre .1 in
-    omega (arith, u .settled .progress .queued .node (c .args .head) (c .pre .0), u .listing .within .few-nodes)
-
-mul-d : tie.Need-mul-d Inv-loop μ-loop
-mul-d c = omega (arith, in-v (c .before))
-
-element-copy-out-d : tie.Need-element-copy-out-d Inv-loop μ-loop
-element-copy-out-d c = in-v (c .before)
-
-mul-k : tie.Need-mul-k Inv-loop μ-loop
-mul-k c = omega (arith, in-v (c .before .before))
-
-element-copy-out-k : tie.Need-element-copy-out-k Inv-loop μ-loop
-element-copy-out-k c = in-v (c .before .before)
-
-loop-holds : tie.Need-loop-holds Inv-loop μ-loop
-loop-holds c = λ G S. begin G S (c .before .before .before .pre .0) _ refl _ refl _ refl
-
--- the invariant, of the digraph that the caller has
-turn : (c : tie.At-loop Inv-loop μ-loop)
-    → let s = c .before .before .before .before in
-    let v = getD (s .args .queue .now) (s .args .head) 0 in
-    Turn (s .pre .1 .listing) (s .args .head) v (getD (s .args .level .now) v 0) (c .loop .k) (c .loop .waiting) (c .loop .level) (c .loop .queue) (c .loop .tail)
-turn c =
-    let u = c .before .before .before .before .pre .1 in
-    c .loop .inv (u .listing) (u .settled)
-
-in-k : (c : tie.In-loop Inv-loop μ-loop) → c .before .loop .k < 256
-in-k c =
-    let G = c .before .before .before .before .before .pre .1 .listing in
-    omega (arith, c .loop-test .taken, G .within .few-edges)
-
 mul-wide : tie.Need-mul-wide Inv-loop μ-loop
-mul-wide c = omega (arith, in-k c)
+mul-wide c = omega (arith, in-head c)
 
 element-copy-out-wide : tie.Need-element-copy-out-wide Inv-loop μ-loop
-element-copy-out-wide c = in-k c
+element-copy-out-wide c = in-head c
 
 wide-requires : tie.Need-wide-requires Inv-loop μ-loop
 wide-requires c κs = search needs
 
+-- the node at the queue's head
+in-v : (c : tie.After-wide Inv-loop μ-loop) → c .wide .result < 256
+in-v c =
+    let s = c .before .before in
+    let u = s .pre .1 in
+    omega (arith, c .wide .ensures .0, u .settled .progress .queued .node (s .args .head) (s .pre .0), u .listing .within .few-nodes)
+
+mul-d : tie.Need-mul-d Inv-loop μ-loop
+mul-d c = omega (arith, in-v c)
+
+element-copy-out-d : tie.Need-element-copy-out-d Inv-loop μ-loop
+element-copy-out-d c = in-v c
+
+mul-wide-2 : tie.Need-mul-wide-2 Inv-loop μ-loop
+mul-wide-2 c = omega (arith, in-v (c .before))
+
+element-copy-out-wide-2 : tie.Need-element-copy-out-wide-2 Inv-loop μ-loop
+element-copy-out-wide-2 c = in-v (c .before)
+
+wide-requires-2 : tie.Need-wide-requires-2 Inv-loop μ-loop
+wide-requires-2 c κs = search needs
+
+abbrev started : tie.At-loop Inv-loop μ-loop → tie.Start Inv-loop μ-loop
+started c = c .before .before .before .before .before .before
+
+loop-holds : tie.Need-loop-holds Inv-loop μ-loop
+loop-holds c = λ G S.
+    let at-v = c .before .before .before in
+    begin G S (at-v .before .before .pre .0) _ (at-v .wide .ensures .0) _ refl _ (c .wide2 .ensures .0)
+
+-- the invariant, of the digraph that the caller has
+turn : (c : tie.At-loop Inv-loop μ-loop)
+    → let s = started c in
+    let v = c .before .before .before .before .wide .result in
+    Turn (s .pre .1 .listing) (s .args .head) v (getD (s .args .level .now) v 0) (c .loop .k) (c .loop .waiting) (c .loop .level) (c .loop .queue) (c .loop .tail)
+turn c =
+    let u = started c .pre .1 in
+    c .loop .inv (u .listing) (u .settled)
+
+in-k : (c : tie.In-loop Inv-loop μ-loop) → c .before .loop .k < 256
+in-k c =
+    let G = started (c .before) .pre .1 .listing in
+    omega (arith, c .loop-test .taken, G .within .few-edges)
+
+mul-wide-3 : tie.Need-mul-wide-3 Inv-loop μ-loop
+mul-wide-3 c = omega (arith, in-k c)
+
+element-copy-out-wide-3 : tie.Need-element-copy-out-wide-3 Inv-loop μ-loop
+element-copy-out-wide-3 c = in-k c
+
+wide-requires-3 : tie.Need-wide-requires-3 Inv-loop μ-loop
+wide-requires-3 c κs = search needs
+
 -- the edge's end
-in-w : (c : tie.After-wide Inv-loop μ-loop) → c .wide .result < 256
+in-w : (c : tie.After-wide3 Inv-loop μ-loop) → c .wide3 .result < 256
 in-w c =
     let in-loop = c .before .before in
-    let G = in-loop .before .before .before .before .before .pre .1 .listing in
-    omega (arith, end-in G (turn (in-loop .before)) (in-loop .loop-test .taken) _ (c .wide .ensures .0), G .within .few-nodes)
+    let G = started (in-loop .before) .pre .1 .listing in
+    omega (arith, end-in G (turn (in-loop .before)) (in-loop .loop-test .taken) _ (c .wide3 .ensures .0), G .within .few-nodes)
 
 -- an edge waits for it
-waits : (c : tie.After-wide Inv-loop μ-loop) → 0 < getD (c .before .before .before .loop .waiting) (c .wide .result) 0
+waits : (c : tie.After-wide3 Inv-loop μ-loop) → 0 < getD (c .before .before .before .loop .waiting) (c .wide3 .result) 0
 waits c =
     let in-loop = c .before .before in
-    let G = in-loop .before .before .before .before .before .pre .1 .listing in
-    edge-waits G (turn (in-loop .before)) (in-loop .loop-test .taken) _ (c .wide .ensures .0)
+    let G = started (in-loop .before) .pre .1 .listing in
+    edge-waits G (turn (in-loop .before)) (in-loop .loop-test .taken) _ (c .wide3 .ensures .0)
 
 -- and the queue has room for it
-space : (c : tie.After-wide Inv-loop μ-loop) → c .before .before .before .loop .tail < 256
+space : (c : tie.After-wide3 Inv-loop μ-loop) → c .before .before .before .loop .tail < 256
 space c =
     let in-loop = c .before .before in
-    let G = in-loop .before .before .before .before .before .pre .1 .listing in
-    end-room G (turn (in-loop .before)) (in-loop .loop-test .taken) _ (c .wide .ensures .0)
+    let G = started (in-loop .before) .pre .1 .listing in
+    end-room G (turn (in-loop .before)) (in-loop .loop-test .taken) _ (c .wide3 .ensures .0)
 
-mul-if1 : tie.Need-mul-if1 Inv-loop μ-loop
-mul-if1 c = omega (arith, in-w c)
+mul-higher : tie.Need-mul-higher Inv-loop μ-loop
+mul-higher c = omega (arith, in-w c)
 
-element-copy-out-if1 : tie.Need-element-copy-out-if1 Inv-loop μ-loop
-element-copy-out-if1 c = in-w c
+element-copy-out-higher : tie.Need-element-copy-out-higher Inv-loop μ-loop
+element-copy-out-higher c = in-w c
 
-add-level : tie.Need-add-level Inv-loop μ-loop
-add-level c =
-    let at-loop = c .before .before .before .before .before in
-    let G = at-loop .before .before .before .before .pre .1 .listing in
+higher-requires : tie.Need-higher-requires Inv-loop μ-loop
+higher-requires c κs =
+    let at-loop = c .before .before .before .before in
+    let G = started at-loop .pre .1 .listing in
     omega (arith, low-level G (turn at-loop), G .within .few-edges)
 
 mul-level : tie.Need-mul-level Inv-loop μ-loop
@@ -128,41 +139,47 @@ mul-waiting c = omega (arith, in-w (c .before .before .before))
 element-write-waiting : tie.Need-element-write-waiting Inv-loop μ-loop
 element-write-waiting c = in-w (c .before .before .before)
 
+cast-queue : tie.Need-cast-queue Inv-loop μ-loop
+cast-queue c = omega (arith, in-w (c .before .before .before))
+
 mul-queue : tie.Need-mul-queue Inv-loop μ-loop
-mul-queue c = omega (arith, space (c .before .before .before .before))
+mul-queue c = omega (arith, space (c .before .before .before))
 
 element-write-queue : tie.Need-element-write-queue Inv-loop μ-loop
-element-write-queue c = space (c .before .before .before .before)
+element-write-queue c = space (c .before .before .before)
+
+bit-requires : tie.Need-bit-requires Inv-loop μ-loop
+bit-requires c κs = search needs
 
 add-tail : tie.Need-add-tail Inv-loop μ-loop
-add-tail c = omega (arith, space (c .before .before .before .before))
+add-tail c = omega (arith, space (c .before .before .before .before), c .bit .ensures .1)
 
-mul-k-2 : tie.Need-mul-k-2 Inv-loop μ-loop
-mul-k-2 c = omega (arith, in-k (c .before .before .before .before .before .before))
+mul-wide-4 : tie.Need-mul-wide-4 Inv-loop μ-loop
+mul-wide-4 c = omega (arith, in-k (c .before .before .before .before .before .before))
 
-element-copy-out-k-2 : tie.Need-element-copy-out-k-2 Inv-loop μ-loop
-element-copy-out-k-2 c = in-k (c .before .before .before .before .before .before)
+element-copy-out-wide-4 : tie.Need-element-copy-out-wide-4 Inv-loop μ-loop
+element-copy-out-wide-4 c = in-k (c .before .before .before .before .before .before)
+
+wide-requires-4 : tie.Need-wide-requires-4 Inv-loop μ-loop
+wide-requires-4 c κs = search needs
+
+abbrev looped : tie.After-wide4 Inv-loop μ-loop → tie.In-loop Inv-loop μ-loop
+looped c = c .before .before .before .before .before .before .before .before
 
 loop-less : tie.Need-loop-less Inv-loop μ-loop
 loop-less c =
-    let in-loop = c .before .before .before .before .before .before .before in
+    let in-loop = looped c in
     let at-loop = in-loop .before in
-    let G = at-loop .before .before .before .before .pre .1 .listing in
-    omega (arith, G .chained .rising (at-loop .loop .k) (omega arith) (in-loop .loop-test .taken), in-loop .loop-test .taken)
+    let G = started at-loop .pre .1 .listing in
+    omega (arith, c .wide4 .ensures .0, G .chained .rising (at-loop .loop .k) (omega arith) (in-loop .loop-test .taken), in-loop .loop-test .taken)
 
 loop-again : tie.Need-loop-again Inv-loop μ-loop
 loop-again c = λ G S.
-    let at-raise = c .before .before .before in
-    let at-wide = at-raise .before .before in
-    let in-loop = at-wide .before .before in
-    let T = in-loop .before .loop .inv G S in
-    let old = in-loop .before .loop .level in
-    let end = at-wide .wide .result in
-    let raised = ⊎-elim (λ w. raise old end _ (w .0 .taken) (w .1)) (λ w. high-already old end _ (w .0 .left) (w .1)) (at-raise .if1 .came) in
-    ⊎-elim
-    (λ w. rw (w .1, w .2) (next-push G T (in-loop .loop-test .taken) _ (at-wide .wide .ensures .0) _ raised _ refl (w .0 .taken)))
-    (λ w. rw (w .1, w .2) (next-still G T (in-loop .loop-test .taken) _ (at-wide .wide .ensures .0) _ raised _ refl (w .0 .left)))
-    (c .before .if2 .came)
+    let at-bit = c .before .before in
+    let at-higher = at-bit .before .before in
+    let at-wide = at-higher .before .before in
+    let in-loop = looped c in
+    next G (in-loop .before .loop .inv G S) (in-loop .loop-test .taken) _ (at-wide .wide3 .ensures .0) _ (ap (set (in-loop .before .loop .level) (at-wide .wide3 .result)) (at-higher .higher .ensures)) _ (c .wide4 .ensures .0) _ (at-bit .bit .ensures .0)
 
 returns : tie.Need-returns Inv-loop μ-loop
 returns c = λ G S. finish G (c .before .loop .inv G S) (c .loop-test .left)
@@ -173,19 +190,21 @@ pass-spec =
     (tie.spec
     Inv-loop
     μ-loop
-    mul-v
-    element-copy-out-v
-    mul-d
-    element-copy-out-d
-    mul-k
-    element-copy-out-k
-    loop-holds
     mul-wide
     element-copy-out-wide
     wide-requires
-    mul-if1
-    element-copy-out-if1
-    add-level
+    mul-d
+    element-copy-out-d
+    mul-wide-2
+    element-copy-out-wide-2
+    wide-requires-2
+    loop-holds
+    mul-wide-3
+    element-copy-out-wide-3
+    wide-requires-3
+    mul-higher
+    element-copy-out-higher
+    higher-requires
     mul-level
     element-write-level
     mul-left
@@ -193,11 +212,14 @@ pass-spec =
     sub-left
     mul-waiting
     element-write-waiting
+    cast-queue
     mul-queue
     element-write-queue
+    bit-requires
     add-tail
-    mul-k-2
-    element-copy-out-k-2
+    mul-wide-4
+    element-copy-out-wide-4
+    wide-requires-4
     loop-less
     loop-again
     returns)
