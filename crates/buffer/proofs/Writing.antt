@@ -5,11 +5,13 @@ use mathlib.Core.Logic.{by-cases}
 use mathlib.Core.List.{List, [], _∷_, _++_, append-nil, append-assoc}
 use native.Mathlib.Decide.{decLt}
 use native.Mathlib.Nat.{add-zero}
-use native.Mathlib.Numerals.{add-one, add-two}
+use native.Mathlib.Numerals.{add-one}
 use native.Mathlib.Omega.{arith}
 use borrow.Author.Tests.{lt-ltb, le-ltb}
+use lib.Dec.{ltb}
 use lib.ListN.{getD, length, take, drop, set, length-append, drop-of-length-le}
-use lib.Seq.{sets, length-sets, drop-cons, length-take-le, getD-take}
+use lib.Seq.{sets, set-set, length-sets, drop-cons, length-take-le, getD-take}
+use Rattle.counting.specs.Counts.{bit}
 use Rattle.text.specs.Written.{decimal, separated, lineEnd, line}
 
 -- a number's digits, by how many there are
@@ -31,16 +33,35 @@ pub sets-append : (xs ys d : List ℕ) (i : ℕ) → sets d i (xs ++ ys) ≡ set
 sets-append [] ys d i = rw add-zero refl
 sets-append (x ∷ xs) ys d i = sets-append xs ys (set d i x) (suc i) ∙ ap (λ (n : ℕ). sets (sets (set d i x) (suc i) xs) n ys) (omega arith)
 
--- what stores in a row leave
-module _ (d ds : List ℕ) (at a b c : ℕ) where
-  pub put-one : ds ≡ a ∷ [] → (at + 1 ≡ at + length ds) × (set d at a ≡ sets d at ds)
-  put-one e = (rw e refl, rw e refl)
+-- the digits of a number by the places of its tens and its ones, which lie t and u places on
+module _ (v t u : ℕ) (et : t ≡ bit (ltb 99 v)) (eu : u ≡ bit (ltb 9 v)) where
+  data Places : Type 0 where
+    ones-only : v < 10 → t ≡ 0 → u ≡ 0 → Places
+    tens-too : 10 ≤ v → v < 100 → t ≡ 0 → u ≡ 1 → Places
+    all-three : 100 ≤ v → t ≡ 1 → u ≡ 1 → Places
 
-  pub put-two : ds ≡ a ∷ b ∷ [] → (at + 2 ≡ at + length ds) × (set (set d at a) (at + 1) b ≡ sets d at ds)
-  put-two e = (rw e refl, rw (e, add-one) refl)
+  places : Places
+  places =
+      by-cases (decLt v 10) (λ h. ones-only h (et ∙ ap bit (le-ltb 99 v (omega arith))) (eu ∙ ap bit (le-ltb 9 v (omega arith))))
+      (λ h. by-cases (decLt v 100) (λ l. tens-too (omega arith) l (et ∙ ap bit (le-ltb 99 v (omega arith))) (eu ∙ ap bit (lt-ltb 9 v (omega arith))))
+      (λ l. all-three (omega arith) (et ∙ ap bit (lt-ltb 99 v (omega arith))) (eu ∙ ap bit (lt-ltb 9 v (omega arith)))))
 
-  pub put-three : ds ≡ a ∷ b ∷ c ∷ [] → (at + 3 ≡ at + length ds) × (set (set (set d at a) (at + 1) b) (at + 2) c ≡ sets d at ds)
-  put-three e = (rw e refl, rw (e, add-one, add-two) refl)
+  pub digits-many : t + u + 1 ≡ length (decimal v)
+  digits-many = go places
+    where
+      go : Places → t + u + 1 ≡ length (decimal v)
+      go (ones-only h a b) = omega (arith, ap length (one v h))
+      go (tens-too l h a b) = omega (arith, ap length (two v l h))
+      go (all-three l a b) = omega (arith, ap length (three v l))
+
+  -- what the three stores leave
+  pub digits-put : (d : List ℕ) (at : ℕ) → set (set (set d at (v / 100 % 10 + 48)) (at + t) (v / 10 % 10 + 48)) (at + t + u) (v % 10 + 48) ≡ sets d at (decimal v)
+  digits-put d at = go places
+    where
+      go : Places → set (set (set d at (v / 100 % 10 + 48)) (at + t) (v / 10 % 10 + 48)) (at + t + u) (v % 10 + 48) ≡ sets d at (decimal v)
+      go (ones-only h a b) = rw (one v h, a, b) (simp (add-zero, set-set))
+      go (tens-too l h a b) = rw (two v l h, a, b) (simp (add-zero, set-set, add-one))
+      go (all-three l a b) = rw (three v l, a, b) (simp add-one)
 
 -- The buffer `out` and the place `at` when `rest` is left to write of `all`, which began at `start` of the buffer `out₀`.
 pub record Left (out₀ : List ℕ) (start : ℕ) (all out : List ℕ) (at : ℕ) (rest : List ℕ) : Type 0 where

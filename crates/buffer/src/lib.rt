@@ -5,18 +5,13 @@ ghost use Prim.Native.Nat.{_+_, _*_, _^_, _<_, _≤_};
 ghost use lib.ListN.{length, take};
 ghost use lib.Seq.{sets};
 ghost use Rattle.text.specs.Written.{decimal, lineEnd, line};
+use counting::bit;
 
 // How many digits a number has.
 fn digits(v: u16) -> usize
     ensures { λ r. ⌜ r ≡ length (decimal v) ⌝ }
 {
-    if v < 10 {
-        return 1;
-    }
-    if v < 100 {
-        return 2;
-    }
-    3
+    1 + bit(9 < v) + bit(99 < v)
 }
 
 // Puts bytes at a place of the buffer, and returns the place after them.
@@ -34,24 +29,18 @@ fn put_bytes(out: &mut [u8], at: usize, bytes: &[u8]) -> usize
     i
 }
 
-// Puts a number's digits.
+// Puts a number's digits. The three of hundreds, tens and ones are stored one after the other, each over the one before it where that
+// leads: so no branch hangs on the number.
 fn put_number(out: &mut [u8], at: usize, v: u16) -> usize
     requires { ⌜ at + length (decimal v) ≤ length (now out) ⌝ }
     ensures { λ r. ⌜ (r ≡ at + length (decimal v)) × (now (out .exit) ≡ sets (now (out .entry)) at (decimal v)) ⌝ }
 {
-    if v < 10 {
-        out[at] = (v % 10) as u8 + 48;
-        return at + 1;
-    }
-    if v < 100 {
-        out[at] = (v / 10 % 10) as u8 + 48;
-        out[at + 1] = (v % 10) as u8 + 48;
-        return at + 2;
-    }
+    let tens = at + bit(99 < v);
+    let ones = tens + bit(9 < v);
     out[at] = (v / 100 % 10) as u8 + 48;
-    out[at + 1] = (v / 10 % 10) as u8 + 48;
-    out[at + 2] = (v % 10) as u8 + 48;
-    at + 3
+    out[tens] = (v / 10 % 10) as u8 + 48;
+    out[ones] = (v % 10) as u8 + 48;
+    ones + 1
 }
 
 // Puts a comma and a number.

@@ -1,10 +1,24 @@
-use mathlib.Core.Path.{ap}
+use Prim.Native.Nat.{_+_}
+use mathlib.Core.Path.{_≡_}
 use native.Mathlib.Omega.{arith}
 use borrow.Author.Needs.{needs}
 use lib.ListN.{length, length-set}
-use Rattle.buffer.proofs.Writing.{put-one, put-two, put-three, one, two, three}
+use Rattle.text.specs.Written.{decimal}
+use Rattle.buffer.proofs.Writing.{digits-many, digits-put}
 use Rattle.buffer.proofs.put_number.Statement.{statement}
 use Rattle.buffer.proofs.put_number.Tie as tie
+
+bit-requires : tie.Need-bit-requires
+bit-requires c κs = search needs
+
+add-tens : tie.Need-add-tens
+add-tens c = search needs
+
+bit-requires-2 : tie.Need-bit-requires-2
+bit-requires-2 c κs = search needs
+
+add-ones : tie.Need-add-ones
+add-ones c = search needs
 
 cast-out : tie.Need-cast-out
 cast-out c = search needs
@@ -12,17 +26,12 @@ cast-out c = search needs
 add-out : tie.Need-add-out
 add-out c = search needs
 
+-- how many digits there are
+many : (c : tie.After-bit2) → c .before .bit .result + c .bit2 .result + 1 ≡ length (decimal (c .before .before .before .args .v))
+many c = digits-many _ _ _ (c .before .bit .ensures .0) (c .bit2 .ensures .0)
+
 slice-write-out : tie.Need-slice-write-out
-slice-write-out c = omega (arith, ap length (one _ (c .if1 .taken)))
-
-add-result : tie.Need-add-result
-add-result c = search needs
-
-same-length : tie.Need-same-length
-same-length c = search needs
-
-returns : tie.Need-returns
-returns c = put-one _ _ _ _ 0 0 (one _ (c .if1 .taken))
+slice-write-out c = omega (arith, many c)
 
 cast-out-2 : tie.Need-cast-out-2
 cast-out-2 c = search needs
@@ -31,7 +40,7 @@ add-out-2 : tie.Need-add-out-2
 add-out-2 c = search needs
 
 slice-write-out-2 : tie.Need-slice-write-out-2
-slice-write-out-2 c = omega (arith, ap length (two _ (c .before .if1 .left) (c .if2 .taken)))
+slice-write-out-2 c = simp length-set (omega (arith, many c))
 
 cast-out-3 : tie.Need-cast-out-3
 cast-out-3 c = search needs
@@ -39,94 +48,35 @@ cast-out-3 c = search needs
 add-out-3 : tie.Need-add-out-3
 add-out-3 c = search needs
 
-add-out-4 : tie.Need-add-out-4
-add-out-4 c = search needs
-
 slice-write-out-3 : tie.Need-slice-write-out-3
-slice-write-out-3 c = simp length-set (omega (arith, ap length (two _ (c .before .if1 .left) (c .if2 .taken))))
+slice-write-out-3 c = simp length-set (omega (arith, many c))
 
-add-result-2 : tie.Need-add-result-2
-add-result-2 c = search needs
+add-result : tie.Need-add-result
+add-result c = search needs
 
-same-length-2 : tie.Need-same-length-2
-same-length-2 c = search needs
+same-length : tie.Need-same-length
+same-length c = search needs
 
-returns-2 : tie.Need-returns-2
-returns-2 c = put-two _ _ _ _ _ 0 (two _ (c .before .if1 .left) (c .if2 .taken))
-
-cast-out-4 : tie.Need-cast-out-4
-cast-out-4 c = search needs
-
-add-out-5 : tie.Need-add-out-5
-add-out-5 c = search needs
-
-slice-write-out-4 : tie.Need-slice-write-out-4
-slice-write-out-4 c = omega (arith, ap length (three _ (c .if2 .left)))
-
-cast-out-5 : tie.Need-cast-out-5
-cast-out-5 c = search needs
-
-add-out-6 : tie.Need-add-out-6
-add-out-6 c = search needs
-
-add-out-7 : tie.Need-add-out-7
-add-out-7 c = search needs
-
-slice-write-out-5 : tie.Need-slice-write-out-5
-slice-write-out-5 c = simp length-set (omega (arith, ap length (three _ (c .if2 .left))))
-
-cast-out-6 : tie.Need-cast-out-6
-cast-out-6 c = search needs
-
-add-out-8 : tie.Need-add-out-8
-add-out-8 c = search needs
-
-add-out-9 : tie.Need-add-out-9
-add-out-9 c = search needs
-
-slice-write-out-6 : tie.Need-slice-write-out-6
-slice-write-out-6 c = simp length-set (omega (arith, ap length (three _ (c .if2 .left))))
-
-add-result-3 : tie.Need-add-result-3
-add-result-3 c = search needs
-
-same-length-3 : tie.Need-same-length-3
-same-length-3 c = search needs
-
-returns-3 : tie.Need-returns-3
-returns-3 c = put-three _ _ _ _ _ _ (three _ (c .if2 .left))
+returns : tie.Need-returns
+returns c = (omega (arith, many c), digits-put _ _ _ (c .before .bit .ensures .0) (c .bit2 .ensures .0) _ _)
 
 pub put-number-spec : {M : Type 1} → statement M
 put-number-spec =
     tie.close
     (tie.spec
+    bit-requires
+    add-tens
+    bit-requires-2
+    add-ones
     cast-out
     add-out
     slice-write-out
-    add-result
-    same-length
-    returns
     cast-out-2
     add-out-2
     slice-write-out-2
     cast-out-3
     add-out-3
-    add-out-4
     slice-write-out-3
-    add-result-2
-    same-length-2
-    returns-2
-    cast-out-4
-    add-out-5
-    slice-write-out-4
-    cast-out-5
-    add-out-6
-    add-out-7
-    slice-write-out-5
-    cast-out-6
-    add-out-8
-    add-out-9
-    slice-write-out-6
-    add-result-3
-    same-length-3
-    returns-3)
+    add-result
+    same-length
+    returns)
