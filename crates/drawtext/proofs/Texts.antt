@@ -43,6 +43,6 @@ module _ (d : Drawing) where
   unfolding drawingText
   drawing-size n m = simp length-append
 
-  pub drawing-short : (n m : ℕ) → n ≤ 128 → m ≤ 256 → length (drawingText n m d) < 2 ^ 32
+  pub drawing-short : (n m : ℕ) → n ≤ 128 → m ≤ 256 → length (drawingText n m d) ≤ 6807
   drawing-short n m hn hm =
       omega (arith, drawing-size n m, line-short rowsKey (d .rows ∷ []), line-short columnsKey (d .columns ∷ []), vertices-short n, edges-short m)

@@ -1,6 +1,7 @@
 // Write drawing: the text of a drawing, how long it is, and how it is put into a buffer.
 ghost use mathlib.Core.Path.{_≡_};
 ghost use Prim.Native.Nat.{_+_, _≤_};
+ghost use lib.Dec.{leb};
 ghost use lib.ListN.{length};
 ghost use lib.Seq.{sets};
 ghost use Rattle.counting.specs.Below.{joinBelow};
@@ -70,6 +71,20 @@ fn text_length(n: usize, m: usize, d: Drawing) -> usize
     rows + columns + vertices_length(n, d) + edges_length(m, d)
 }
 
+// No text of a drawing has more bytes.
+const LONGEST: usize = 6807;
+
+// Whether the text of a drawing of n vertices and m edges has at most `room` bytes. It is measured only where the longest would not fit.
+fn fits(room: usize, n: usize, m: usize, d: Drawing) -> bool
+    requires { ⌜ (n ≤ 128) × (m ≤ 256) ⌝ }
+    ensures { λ r. ⌜ r ≡ leb (length (drawingText n m d)) room ⌝ }
+{
+    if LONGEST <= room {
+        return true;
+    }
+    text_length(n, m, d) <= room
+}
+
 // Puts the lines `bar=` of n vertices.
 fn put_vertices(out: &mut [u8], start: usize, n: usize, d: Drawing) -> usize
     requires { ⌜ (n ≤ 128) × (start + length (joinBelow (vertexText d) n) ≤ length (now out)) ⌝ }
@@ -126,7 +141,7 @@ fn write_drawn(s: Sheet, drawn: Drawn, out: &mut [u8]) -> Written
         };
     }
     let drawing = drawn.drawing;
-    if out.len() < text_length(s.vertices, s.edges, drawing) {
+    if !fits(out.len(), s.vertices, s.edges, drawing) {
         return Written {
             answer: Answer::BufferTooShort,
             count: 0,

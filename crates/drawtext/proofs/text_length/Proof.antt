@@ -13,7 +13,7 @@ before-lines c = c .before .before .before .before .before .before
 
 -- the text is short enough for its length to fit
 short : (c : tie.Start) → length (drawingText (c .args .n) (c .args .m) (c .args .d)) < 2 ^ 32
-short c = drawing-short (c .args .d) (c .args .n) (c .args .m) (c .pre .0) (c .pre .1)
+short c = omega (arith, drawing-short (c .args .d) (c .args .n) (c .args .m) (c .pre .0) (c .pre .1))
 
 -- what the calls add up to
 whole : (c : tie.After-edges-length) → let columns = c .before .before in let start = before-lines columns in

@@ -1,7 +1,6 @@
 use mathlib.Core.Path.{_≡_, sym, _∙_}
 use mathlib.Core.Bool.{true}
-use native.Mathlib.Omega.{arith}
-use borrow.Author.Tests.{not-true, not-false}
+use borrow.Author.Tests.{not-true, not-false, leb-true, leb-false}
 use borrow.Author.Needs.{needs}
 use Rattle.answers.specs.Refusals.{isAccepted}
 use Rattle.drawtext.proofs.Answered.{refused, is-so, limits, is-drawing, short-buffer, drawing-put}
@@ -18,16 +17,16 @@ is-accepted-requires c κs = search needs
 returns : tie.Need-returns
 returns c = refused _ _ (c .before .before .before .pre) (sym (c .before .is-accepted .ensures) ∙ not-true _ (c .if1 .taken)) _
 
-text-length-requires : tie.Need-text-length-requires
-text-length-requires c κs = let l = limits _ _ (c .before .before .before .before .pre) (accepted (c .before)) in (l .vertices-most, l .edges-most)
+fits-requires : tie.Need-fits-requires
+fits-requires c κs = let l = limits _ _ (c .before .before .before .before .pre) (accepted (c .before)) in (l .vertices-most, l .edges-most)
 
 returns-2 : tie.Need-returns-2
 returns-2 c = let else = c .before .before .before in let p = else .before .before .before .pre in let a = accepted else in
-    short-buffer _ (is-so _ _ p a) _ (is-drawing _ _ p a) _ (omega (arith, c .before .text-length .ensures, c .if2 .taken))
+    short-buffer _ (is-so _ _ p a) _ (is-drawing _ _ p a) _ (leb-false _ _ (sym (c .before .fits2 .ensures) ∙ not-true _ (c .if2 .taken)))
 
 put-drawing-requires : tie.Need-put-drawing-requires
 put-drawing-requires c κs = let else = c .before .before .before .before in let l = limits _ _ (else .before .before .before .pre) (accepted else) in
-    (l .vertices-most, l .edges-most, omega (arith, c .before .before .text-length .ensures, c .before .if2 .left))
+    (l .vertices-most, l .edges-most, leb-true _ _ (sym (c .before .before .fits2 .ensures) ∙ not-false _ (c .before .if2 .left)))
 
 same-length : tie.Need-same-length
 same-length c = search needs
@@ -35,7 +34,7 @@ same-length c = search needs
 returns-3 : tie.Need-returns-3
 returns-3 c = let put = c .before .before in
     let else = put .before .before .before .before .before in let p = else .before .before .before .pre in let a = accepted else in
-    drawing-put _ (is-so _ _ p a) _ (is-drawing _ _ p a) _ (omega (arith, put .before .before .before .text-length .ensures, put .before .before .if2 .left)) _ (put .put-drawing .ensures .0) _ (put .put-drawing .ensures .1)
+    drawing-put _ (is-so _ _ p a) _ (is-drawing _ _ p a) _ (leb-true _ _ (sym (put .before .before .before .fits2 .ensures) ∙ not-false _ (put .before .before .if2 .left))) _ (put .put-drawing .ensures .0) _ (put .put-drawing .ensures .1)
 
 pub write-drawn-spec : {M : Type 1} → statement M
 write-drawn-spec =
@@ -43,7 +42,7 @@ write-drawn-spec =
     (tie.spec
     is-accepted-requires
     returns
-    text-length-requires
+    fits-requires
     returns-2
     put-drawing-requires
     same-length
