@@ -1,11 +1,15 @@
 -- The clauses of soundness over the record's arrays, as the functions behind the check compute them.
 use Prim.Native.Nat.{ℕ, _-_, _*_, _/_, _≤_, _<_}
+use mathlib.Core.Path.{_≡_}
+use mathlib.Core.Logic.{_⊎_}
 use mathlib.Core.Bool.{Bool, cond, not, _&&_, _||_, Bool·beq}
 use mathlib.Core.List.{List, _++_}
 use lib.Dec.{eqb, ltb, leb}
-use lib.ListN.{getD, replicate}
+use lib.ListN.{getD, length, replicate}
 use Rattle.counting.specs.Below.{allBelow, someBelow, tabulate}
+use Rattle.counting.specs.Orbits.{Perm, Reach}
 use Rattle.orbits.specs.Tables.{traced, isPermutation}
+use Rattle.orbits.specs.Meaning.{entries}
 use Rattle.clauses.specs.Darts.{isTail, opposite}
 
 unfoldable pub limitsOf : ℕ → ℕ → Bool
@@ -40,12 +44,27 @@ unfoldable pub ringAt : ℕ → List ℕ → List ℕ → List ℕ → ℕ → B
 ringAt n at nexts ring d =
     eqb (getD at (getD nexts d 0) 0) (getD at d 0) && allBelow (λ e. not (eqb (getD at d 0) (getD at e 0)) || eqb (getD ring d 0) (getD ring e 0)) n
 
--- vertices, next darts and rings of n darts are within their arrays
-pub record Readable (n : ℕ) (at nexts ring : List ℕ) : Type 0 where
+-- the vertices of n darts are within their array, and the next darts permute the darts
+pub record Readable (n : ℕ) (at nexts : List ℕ) : Type 0 where
   pub few : n ≤ 512
   pub at-in : (d : ℕ) → d < n → getD at d 0 < 128
-  pub next-in : (d : ℕ) → d < n → getD nexts d 0 < n
-  pub ring-in : (d : ℕ) → d < n → getD ring d 0 < 512
+  pub permuted : Perm n (entries nexts)
+
+-- `held` has one of the first k darts at each vertex that has one of them, and 512 at the others
+pub record Held (k : ℕ) (at held : List ℕ) : Type 0 where
+  pub full : length held ≡ 128
+  pub there : (v : ℕ) → v < 128 → (getD held v 0 ≡ 512) ⊎ ((getD held v 0 < k) × (getD at (getD held v 0) 0 ≡ v))
+  pub some : (d : ℕ) → d < k → getD held (getD at d 0) 0 < k
+
+-- what is reached from s has the number v, and the rest what it had
+pub record Rounded (φ : ℕ → ℕ) (s v : ℕ) (ring₀ ring : List ℕ) : Type 0 where
+  pub full : length ring ≡ 512
+  pub new : (d : ℕ) → Reach φ s d → getD ring d 0 ≡ v
+  pub old : (d : ℕ) → (getD ring d 0 ≡ getD ring₀ d 0) ⊎ Reach φ s d
+
+-- dart d has its vertex for the number of its ring
+unfoldable pub numberedAt : List ℕ → List ℕ → ℕ → Bool
+numberedAt at ring d = eqb (getD at d 0) (getD ring d 0)
 
 unfoldable pub ringsOf : ℕ → List ℕ → List ℕ → List ℕ → Bool
 ringsOf n tails heads nexts = isPermutation n nexts && allBelow (ringAt n (dartTable (vertexOf tails heads) n) nexts (traced n nexts .orbit)) n

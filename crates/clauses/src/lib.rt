@@ -1,14 +1,17 @@
 // The clauses of soundness over the arrays of a sheet, each in time linear in them.
 ghost use mathlib.Core.Path.{_≡_};
-ghost use mathlib.Core.Bool.{not, _&&_, _||_};
-ghost use Prim.Native.Nat.{_*_, _≤_, _<_};
+ghost use mathlib.Core.Bool.{not, _&&_};
+ghost use Prim.Native.Nat.{ℕ, _*_, _≤_, _<_};
 ghost use lib.Dec.{eqb, ltb};
-ghost use lib.ListN.{length};
+ghost use lib.ListN.{getD, length};
 ghost use Rattle.counting.specs.Below.{allBelow, tabulate};
-ghost use Rattle.clauses.specs.Arrays.{limitsOf, joinsAt, zeroAt, unusedOf, Ends, dartTable, vertexOf, walkOf, ringAt, Readable, ringsOf, endOf, poleAt, polesOf, rootedOf};
+ghost use Rattle.counting.specs.Orbits.{Perm};
+ghost use Rattle.orbits.specs.Tables.{traced};
+ghost use Rattle.orbits.specs.Meaning.{entries};
+ghost use Rattle.clauses.specs.Arrays.{limitsOf, joinsAt, zeroAt, unusedOf, Ends, dartTable, vertexOf, walkOf, ringAt, Readable, Held, Rounded, numberedAt, ringsOf, endOf, poleAt, polesOf, rootedOf};
 use counting::wide;
 
-// Stands for the ring of a vertex of which no dart was seen.
+// Stands for the number of a ring that has none, and for the dart of a vertex that has none.
 const NONE: u16 = 512;
 
 // Whether the counts of vertices and edges are within limits.
@@ -114,31 +117,70 @@ pub fn walks(m: usize, nexts: &[u16; 512]) -> [u16; 512]
     walk
 }
 
-// Whether `ring` goes with what was seen at its vertex before.
-fn agrees(seen: u16, ring: u16) -> bool
-    ensures { λ r. ⌜ r ≡ (eqb seen 512 || eqb seen ring) ⌝ }
+// A dart of each vertex that has one, and NONE at the others.
+fn some_darts(darts: usize, at: &[u16; 512]) -> [u16; 128]
+    requires { ⌜ (darts ≤ 512) × ((d : ℕ) → d < darts → getD (now at) d 0 < 128) ⌝ }
+    ensures { λ r. ⌜ Held darts (now (at .entry)) r ⌝ }
 {
-    (seen == NONE) | (seen == ring)
-}
-
-// Whether each dart's next dart is at the same vertex, and all darts of a vertex are in one ring.
-fn one_ring_each(darts: usize, at: &[u16; 512], nexts: &[u16; 512], ring: &[u16; 512]) -> bool
-    requires { ⌜ Readable darts (now at) (now nexts) (now ring) ⌝ }
-    ensures { λ r. ⌜ r ≡ allBelow (ringAt darts (now (at .entry)) (now (nexts .entry)) (now (ring .entry))) darts ⌝ }
-{
-    let mut seen = [NONE; 128];
-    let mut good = true;
+    let mut held = [NONE; 128];
     let mut d = 0;
     while d < darts {
         let v = wide(at[d]);
-        let next = wide(nexts[d]);
-        let there = wide(at[next]);
-        let here = ring[d];
-        good = good & (there == v) & agrees(seen[v], here);
-        seen[v] = here;
+        held[v] = d as u16;
         d += 1;
     }
-    good
+    held
+}
+
+// Goes round the ring of dart `start`, and gives each of its darts the number v.
+fn go_round(darts: usize, nexts: &[u16; 512], start: usize, v: u16, ring: &mut [u16; 512])
+    requires { ⌜ (darts ≤ 512) × Perm darts (entries (now nexts)) × (start < darts) × (length (now ring) ≡ 512) ⌝ }
+    ensures { λ _. ⌜ Rounded (entries (now (nexts .entry))) start v (now (ring .entry)) (now (ring .exit)) ⌝ }
+{
+    let mut d = start;
+    let mut steps = 0;
+    while steps < darts {
+        ring[d] = v;
+        d = wide(nexts[d]);
+        steps += 1;
+        if d == start {
+            return;
+        }
+    }
+}
+
+// Whether each dart has its vertex for the number of its ring.
+fn numbered(darts: usize, at: &[u16; 512], ring: &[u16; 512]) -> bool
+    requires { ⌜ darts ≤ 512 ⌝ }
+    ensures { λ r. ⌜ r ≡ allBelow (numberedAt (now (at .entry)) (now (ring .entry))) darts ⌝ }
+{
+    let mut d = 0;
+    while d < darts {
+        if at[d] != ring[d] {
+            return false;
+        }
+        d += 1;
+    }
+    true
+}
+
+// Whether each dart's next dart is at the same vertex, and all darts of a vertex are in one ring: the ring of one dart of each vertex gets
+// the vertex for its number, and then every dart must have its own vertex's.
+fn one_ring_each(darts: usize, at: &[u16; 512], nexts: &[u16; 512]) -> bool
+    requires { ⌜ Readable darts (now at) (now nexts) ⌝ }
+    ensures { λ r. ⌜ r ≡ allBelow (ringAt darts (now (at .entry)) (now (nexts .entry)) (traced darts (now (nexts .entry)) .orbit)) darts ⌝ }
+{
+    let held = some_darts(darts, at);
+    let mut ring = [NONE; 512];
+    let mut v = 0;
+    while v < 128 {
+        let start = wide(held[v]);
+        if start < darts {
+            go_round(darts, nexts, start, v as u16, &mut ring);
+        }
+        v += 1;
+    }
+    numbered(darts, at, &ring)
 }
 
 // Whether the next-darts of each vertex form one ring of exactly its darts.
@@ -151,9 +193,7 @@ pub fn in_rings(m: usize, tails: &[u16; 256], heads: &[u16; 256], nexts: &[u16; 
         return false;
     }
     let at = places(m, tails, heads);
-    let traced = orbits::trace(darts, nexts);
-    let ring = traced.orbit;
-    one_ring_each(darts, &at, nexts, &ring)
+    one_ring_each(darts, &at, nexts)
 }
 
 // Marks each vertex that is among the first m ends.

@@ -47,6 +47,17 @@ pass {e = e} h p n = record {
   lead = p .lead;
 }
 
+-- a walk that is back where it started has been at every element of the orbit
+module _ {φ : ℕ → ℕ} {orbit₀ orbit : List ℕ} {s f i : ℕ} (w : Walk φ orbit₀ orbit s f (suc i)) (round : iter φ (suc i) s ≡ s) where
+  been : (k : ℕ) → (j : ℕ) × (j < suc i) × (iter φ j s ≡ iter φ k s)
+  been zero = (zero, omega arith, refl)
+  been (suc k) = let (j, l, q) = been k in by-cases (ℕ-discrete j i)
+      (λ e. (zero, omega arith, sym round ∙ ap (λ x. φ (iter φ x s)) (sym e) ∙ ap φ q))
+      (λ e. (suc j, omega arith, ap φ q))
+
+  pub walked-all : (d : ℕ) → Reach φ s d → getD orbit d 0 ≡ f
+  walked-all d (k, r) = let (j, l, q) = been k in ap (entries orbit) (sym (q ∙ r)) ∙ w .new j l
+
 module _ {size : ℕ} {φ : ℕ → ℕ} (P : Perm size φ) (fits : size ≤ 512) where
   pub walk-on : {orbit₀ orbit : List ℕ} {s f i : ℕ} → s < size → Walk φ orbit₀ orbit s f i → Walk φ orbit₀ (set orbit (iter φ i s) f) s f (suc i)
   walk-on {orbit₀} {orbit} {s} {f} {i} h w = record {
@@ -69,15 +80,8 @@ module _ {size : ℕ} {φ : ℕ → ℕ} (P : Perm size φ) (fits : size ≤ 512
   -- the walk is back where it started
   module _ {orbit₀ orbit : List ℕ} {s f i : ℕ} (h : s < size) (p : Part size φ orbit₀ s f) (free : getD orbit₀ s 0 ≡ 512)
       (w : Walk φ orbit₀ orbit s f (suc i)) (round : iter φ (suc i) s ≡ s) where
-    -- it has been at every element of the orbit
-    been : (k : ℕ) → (j : ℕ) × (j < suc i) × (iter φ j s ≡ iter φ k s)
-    been zero = (zero, omega arith, refl)
-    been (suc k) = let (j, l, q) = been k in by-cases (ℕ-discrete j i)
-        (λ e. (zero, omega arith, sym round ∙ ap (λ x. φ (iter φ x s)) (sym e) ∙ ap φ q))
-        (λ e. (suc j, omega arith, ap φ q))
-
     new-all : (d : ℕ) → Reach φ s d → getD orbit d 0 ≡ f
-    new-all d (k, r) = let (j, l, q) = been k in ap (entries orbit) (sym (q ∙ r)) ∙ w .new j l
+    new-all = walked-all w round
 
     -- none of which had a number
     was-free : (d : ℕ) → Reach φ s d → getD orbit₀ d 0 ≡ 512

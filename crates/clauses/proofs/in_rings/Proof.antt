@@ -18,23 +18,18 @@ returns c = rings-none _ _ _ _ (sym (c .before .permutes .ensures) ∙ not-true 
 places-requires : tie.Need-places-requires
 places-requires c κs = search needs
 
-trace-requires : tie.Need-trace-requires
-trace-requires c κs = search needs
-
 one-ring-each-requires : tie.Need-one-ring-each-requires
 one-ring-each-requires c κs =
-    let traced = c .before .before .before in
-    let placed = traced .before in
+    let placed = c .before in
     let tested = placed .before in
     let start = tested .before .before in
-    rw (placed .places .ensures, traced .trace .ensures) (readable _ _ _ _ (start .pre .0) (start .pre .1) (sym (tested .before .permutes .ensures) ∙ not-false _ (tested .if1 .left)))
+    rw (placed .places .ensures) (readable _ _ _ _ (start .pre .0) (start .pre .1) (sym (tested .before .permutes .ensures) ∙ not-false _ (tested .if1 .left)))
 
 returns-2 : tie.Need-returns-2
 returns-2 c =
-    let traced = c .before .before .before .before in
-    let placed = traced .before in
+    let placed = c .before .before in
     let tested = placed .before in
-    rw (c .one-ring-each .ensures, placed .places .ensures, traced .trace .ensures) (rings-all _ _ _ _ (sym (tested .before .permutes .ensures) ∙ not-false _ (tested .if1 .left)))
+    rw (c .one-ring-each .ensures, placed .places .ensures) (rings-all _ _ _ _ (sym (tested .before .permutes .ensures) ∙ not-false _ (tested .if1 .left)))
 
 pub in-rings-spec : {M : Type 1} → statement M
 in-rings-spec =
@@ -44,6 +39,5 @@ in-rings-spec =
     permutes-requires
     returns
     places-requires
-    trace-requires
     one-ring-each-requires
     returns-2)

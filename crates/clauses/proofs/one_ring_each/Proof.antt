@@ -1,101 +1,73 @@
--- `sheet::one_ring_each` meets its contract. The darts before d are right, and their rings stand in the table; or something is wrong. Assumes nothing.
+-- `one_ring_each` meets its contract. The rings of the vertices below v are numbered. Assumes nothing.
 use Prim.Native.Nat.{_≤_, _-_}
+use mathlib.Core.Path.{_≡_, _∙_}
+use mathlib.Core.Logic.{⊎-elim}
 use native.Mathlib.Omega.{arith}
-use Rattle.clauses.proofs.Rings.{Looked, looked-none, looked-more, looked-over}
+use Rattle.clauses.proofs.Rings.{Ringed, ringed-none, ringed-skip, ringed-more, rings-numbered}
 use borrow.Author.Needs.{needs}
 use Rattle.clauses.proofs.one_ring_each.Statement.{statement}
 use Rattle.clauses.proofs.one_ring_each.Tie as tie
 
 abbrev Inv-loop : tie.InvT-loop
-Inv-loop darts at nexts ring seen₀ good₀ d₀ seen good d = (d ≤ darts) × Looked darts at nexts ring d seen good
+Inv-loop darts at nexts held ring₀ v₀ ring v = (v ≤ 128) × Ringed darts at nexts held v ring
 
 abbrev μ-loop : tie.MeasureT-loop
-μ-loop darts at nexts ring seen₀ good₀ d₀ seen good d = darts - d
+μ-loop darts at nexts held ring₀ v₀ ring v = 128 - v
+
+some-darts-requires : tie.Need-some-darts-requires Inv-loop μ-loop
+some-darts-requires c κs = (c .pre .few, c .pre .at-in)
 
 loop-holds : tie.Need-loop-holds Inv-loop μ-loop
-loop-holds c = (search needs, looked-none _ _ _ _)
+loop-holds c = (search needs, ringed-none (c .before .pre) (c .some-darts .ensures))
 
 mul-wide : tie.Need-mul-wide Inv-loop μ-loop
 mul-wide c = search needs
 
-element-copy-out-wide : tie.Need-element-copy-out-wide Inv-loop μ-loop
-element-copy-out-wide c = omega (arith, c .before .before .pre .few)
+array-read-wide : tie.Need-array-read-wide Inv-loop μ-loop
+array-read-wide c = search needs
 
 wide-requires : tie.Need-wide-requires Inv-loop μ-loop
 wide-requires c κs = search needs
 
-mul-wide-2 : tie.Need-mul-wide-2 Inv-loop μ-loop
-mul-wide-2 c = search needs
+cast-go-round : tie.Need-cast-go-round Inv-loop μ-loop
+cast-go-round c = search needs
 
-element-copy-out-wide-2 : tie.Need-element-copy-out-wide-2 Inv-loop μ-loop
-element-copy-out-wide-2 c = omega (arith, c .before .before .before .before .pre .few)
+go-round-requires : tie.Need-go-round-requires Inv-loop μ-loop
+go-round-requires c κs =
+    let then = c .before in
+    let at-loop = then .before .before .before in
+    let p = at-loop .before .before .pre in
+    (p .few, p .permuted, then .if1 .taken, at-loop .loop .inv .1 .full)
 
-wide-requires-2 : tie.Need-wide-requires-2 Inv-loop μ-loop
-wide-requires-2 c κs = search needs
-
-mul-wide-3 : tie.Need-mul-wide-3 Inv-loop μ-loop
-mul-wide-3 c = search needs
-
-element-copy-out-wide-3 : tie.Need-element-copy-out-wide-3 Inv-loop μ-loop
-element-copy-out-wide-3 c =
-    let in-loop = c .before .before .before .before in
-    let at-loop = in-loop .before in
-    let p = at-loop .before .pre in
-    omega (arith, p .few, p .next-in (at-loop .loop .d) (in-loop .loop-test .taken))
-
-wide-requires-3 : tie.Need-wide-requires-3 Inv-loop μ-loop
-wide-requires-3 c κs = search needs
-
-mul-here : tie.Need-mul-here Inv-loop μ-loop
-mul-here c = search needs
-
-element-copy-out-here : tie.Need-element-copy-out-here Inv-loop μ-loop
-element-copy-out-here c =
-    let in-loop = c .before .before .before .before .before .before in
-    let at-loop = in-loop .before in
-    omega (arith, at-loop .before .pre .few)
-
-mul-agrees : tie.Need-mul-agrees Inv-loop μ-loop
-mul-agrees c = search needs
-
-array-read-agrees : tie.Need-array-read-agrees Inv-loop μ-loop
-array-read-agrees c =
-    let in-loop = c .before .before .before .before .before .before .before in
-    let at-loop = in-loop .before in
-    omega (arith, at-loop .before .pre .at-in (at-loop .loop .d) (in-loop .loop-test .taken))
-
-agrees-requires : tie.Need-agrees-requires Inv-loop μ-loop
-agrees-requires c κs = search needs
-
-mul-seen : tie.Need-mul-seen Inv-loop μ-loop
-mul-seen c = search needs
-
-array-write-seen : tie.Need-array-write-seen Inv-loop μ-loop
-array-write-seen c =
-    let in-loop = c .before .before .before .before .before .before .before .before in
-    let at-loop = in-loop .before in
-    omega (arith, at-loop .before .pre .at-in (at-loop .loop .d) (in-loop .loop-test .taken))
-
-add-d : tie.Need-add-d Inv-loop μ-loop
-add-d c =
-    let in-loop = c .before .before .before .before .before .before .before .before in
-    let at-loop = in-loop .before in
-    omega (arith, at-loop .before .pre .few)
+add-v : tie.Need-add-v Inv-loop μ-loop
+add-v c = search needs
 
 loop-less : tie.Need-loop-less Inv-loop μ-loop
 loop-less c = search needs
 
 loop-again : tie.Need-loop-again Inv-loop μ-loop
 loop-again c =
-    let w3 = c .before .before in
-    let w2 = w3 .before .before in
-    let w1 = w2 .before .before in
-    let in-loop = w1 .before .before in
+    let at-wide = c .before in
+    let in-loop = at-wide .before in
     let at-loop = in-loop .before in
-    (search needs, looked-more _ _ _ _ _ (at-loop .before .pre) (at-loop .loop .inv .1) (in-loop .loop-test .taken) _ (w1 .wide .ensures .0) _ (w2 .wide2 .ensures .0) _ (w3 .wide3 .ensures .0) _ (c .agrees .ensures))
+    let p = at-loop .before .before .pre in
+    let held = at-loop .before .some-darts .ensures in
+    let G = at-loop .loop .inv .1 in (
+      search needs,
+      ⊎-elim
+          (λ w. rw (w .3) (ringed-more p held G _ (at-wide .wide .ensures .0) (in-loop .loop-test .taken) (w .0 .taken) (w .2 .ensures)))
+          (λ w. rw (w .1) (ringed-skip p held G _ (at-wide .wide .ensures .0) (w .0 .left)))
+          (c .if1 .came),
+    )
+
+numbered-requires : tie.Need-numbered-requires Inv-loop μ-loop
+numbered-requires c κs = c .before .before .before .before .pre .few
 
 returns : tie.Need-returns Inv-loop μ-loop
-returns c = looked-over _ _ _ _ _ (c .before .loop .inv .1) (c .loop-test .left)
+returns c =
+    let at-loop = c .before .before .before in
+    let e : at-loop .loop .v ≡ 128 = omega (arith, at-loop .loop .inv .0, c .before .before .loop-test .left) in
+    c .numbered .ensures ∙ rings-numbered (at-loop .before .before .pre) (at-loop .before .some-darts .ensures) (rw e at (at-loop .loop .inv .1))
 
 pub one-ring-each-spec : {M : Type 1} → statement M
 one-ring-each-spec =
@@ -103,24 +75,15 @@ one-ring-each-spec =
     (tie.spec
     Inv-loop
     μ-loop
+    some-darts-requires
     loop-holds
     mul-wide
-    element-copy-out-wide
+    array-read-wide
     wide-requires
-    mul-wide-2
-    element-copy-out-wide-2
-    wide-requires-2
-    mul-wide-3
-    element-copy-out-wide-3
-    wide-requires-3
-    mul-here
-    element-copy-out-here
-    mul-agrees
-    array-read-agrees
-    agrees-requires
-    mul-seen
-    array-write-seen
-    add-d
+    cast-go-round
+    go-round-requires
+    add-v
     loop-less
     loop-again
+    numbered-requires
     returns)
