@@ -18,7 +18,7 @@ use Rattle.sheet.specs.declared.Sheet.{Sheet}
 use Rattle.sheet.specs.declared.Findings.{Findings}
 use Rattle.sheet.specs.Findings as findings
 use Rattle.sheet.specs.Findings.{findingsOf, refused}
-use Rattle.sheet.specs.Check.{sound, faceTable}
+use Rattle.sheet.specs.Check.{sound, faceTable, rowLevels}
 use Rattle.sheet.specs.Darts.{Sized, touches}
 use Rattle.soundness.proofs.Law.{sound-law}
 use Rattle.preservation.proofs.Accepted.{neither, other-number, not-at-most}
@@ -143,6 +143,10 @@ module _ (s : Sheet) (found : Findings) (e : found ≡ findingsOf s) where
   pub found-faces : sound s ≡ true → found .faces ≡ faceTable s .orbit
   unfolding findingsOf findings.accepted
   found-faces t = rw (e, t) refl
+
+  pub found-rows : sound s ≡ true → found .rows ≡ rowLevels s .level
+  unfolding findingsOf findings.accepted
+  found-rows t = rw (e, t) refl
 
 -- the arrays have the lengths of their types
 pub sized-by : (s : Sheet) → length (map (λ v. v) (s .tails)) ≡ 256 → length (map (λ v. v) (s .heads)) ≡ 256 → length (map (λ v. v) (s .nexts)) ≡ 512 → Sized s

@@ -2,7 +2,7 @@
 -- of edge 0. Assumes nothing.
 use Prim.Native.Nat.{ℕ, suc, _+_, _≤_, _<_}
 use mathlib.Core.Path.{_≡_, refl, sym, _∙_, ap}
-use mathlib.Core.Logic.{_≢_, _↔_, by-cases}
+use mathlib.Core.Logic.{_≢_, _↔_, _⊎_, inl, inr, ⊎-elim, by-cases}
 use mathlib.Core.Bool.{Bool, true, false, not, cond}
 use mathlib.Core.List.{List}
 use native.Mathlib.Decide.{ℕ-discrete}
@@ -30,6 +30,18 @@ module _ (s : Sheet) (a b : ℕ) (g : Pair s a b) where
   -- from bar 0 a path leads to every bar
   pub from-root : b ≡ 0 → leadsTo s b a ≡ true
   from-root e = leads-to-law s (g .sound) b a (g .b-in) (g .a-in) .1 (row s a, rw e (row-law (g .sound) .longest a (g .a-in) .path))
+
+  -- a path rises from row to row
+  climbs : {v k : ℕ} → Path (Leads s) b v k → (b ≡ v) ⊎ (row s b < row s v)
+  climbs here = inl refl
+  climbs (more {b = u} {v = v} p t) =
+      let up : row s u < row s v = rw (t .from, t .to) at (row-law (g .sound) .rises (t .edge) (t .edge-in)) in
+      inr (⊎-elim (λ e. rw (← e) at up) (λ l. omega arith) (climbs p))
+
+  pub not-higher : row s a ≤ row s b → leadsTo s b a ≡ false
+  not-higher l = by-bool (leadsTo s b a)
+      (λ t. let (k, p) = leads-to-law s (g .sound) b a (g .b-in) (g .a-in) .0 t in ⊎-elim (λ e. absurd (g .other (sym e))) (λ h. absurd (omega arith)) (climbs p))
+      (λ f. f)
 
   abbrev tails : List ℕ
   tails = set (s .tails) 0 a

@@ -3,6 +3,7 @@ ghost use mathlib.Core.Path.{_≡_};
 ghost use Prim.Native.Nat.{_<_};
 ghost use lib.ListN.{getD};
 ghost use Rattle.clauses.specs.Darts.{opposite};
+ghost use Rattle.sheet.specs.Check.{rowLevels};
 ghost use Rattle.edit.specs.Reaching.{leadsTo};
 ghost use Rattle.edit.specs.Changes.{runEdge};
 ghost use Rattle.edit.specs.Calls.{runAnswer, runCall};
@@ -55,14 +56,18 @@ fn corner(faces: &[u16; 512], tails: &[u16; 256], k: usize, v: usize) -> u16
     across(faces, dart)
 }
 
-// Whether a directed path leads from b to a. From vertex 0 one leads to every vertex. From any other no path takes edge 0, which starts
-// at vertex 0: so with an edge from a to b in the place of edge 0 there is a circle where a path leads from b to a.
-fn leads_back(s: Sheet, a: usize, b: usize) -> bool
-    requires { ⌜ Pair s a b ⌝ }
+// Whether a directed path leads from b to a. From vertex 0 one leads to every vertex, and to a row that is not above its start's none. From
+// any other vertex than 0 no path takes edge 0, which starts there: so with an edge from a to b in the place of edge 0 there is a circle where
+// a path leads from b to a.
+fn leads_back(s: Sheet, rows: &[u16; 256], a: usize, b: usize) -> bool
+    requires { ⌜ Pair s a b × (now rows ≡ rowLevels s .level) ⌝ }
     ensures { λ r. ⌜ r ≡ leadsTo s b a ⌝ }
 {
     if b == 0 {
         return true;
+    }
+    if rows[a] <= rows[b] {
+        return false;
     }
     let mut tails = s.tails;
     tails[0] = a as u16;
@@ -118,12 +123,21 @@ fn run_answer(s: Sheet, a: usize, p: usize, b: usize, q: usize) -> Answer
         return Answer::NotInSheet;
     }
     let faces = found.faces;
-    join_answer(s, &faces, a, p, b, q)
+    let rows = found.rows;
+    join_answer(s, &faces, &rows, a, p, b, q)
 }
 
 // What run refuses of a sound sheet whose vertices and edges are named, in order.
-fn join_answer(s: Sheet, faces: &[u16; 512], a: usize, p: usize, b: usize, q: usize) -> Answer
-    requires { ⌜ Named s (now faces) a p b q ⌝ }
+fn join_answer(
+    s: Sheet,
+    faces: &[u16; 512],
+    rows: &[u16; 256],
+    a: usize,
+    p: usize,
+    b: usize,
+    q: usize,
+) -> Answer
+    requires { ⌜ Named s (now faces) a p b q × (now rows ≡ rowLevels s .level) ⌝ }
     ensures { λ r. ⌜ r ≡ runAnswer s a p b q ⌝ }
 {
     let tails = s.tails;
@@ -140,7 +154,7 @@ fn join_answer(s: Sheet, faces: &[u16; 512], a: usize, p: usize, b: usize, q: us
     if a == b {
         return Answer::ClosesCircle;
     }
-    if leads_back(s, a, b) {
+    if leads_back(s, rows, a, b) {
         return Answer::ClosesCircle;
     }
     if s.edges == 256 {

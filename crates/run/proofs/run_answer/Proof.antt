@@ -4,7 +4,7 @@ use mathlib.Core.Bool.{true}
 use borrow.Author.Tests.{not-true, not-false}
 use Rattle.sheet.specs.Darts.{Sized}
 use Rattle.sheet.specs.Check.{sound}
-use Rattle.run.proofs.Answers.{not-sound, no-start, no-end, no-first, no-second, found-sound, found-faces, sized-by}
+use Rattle.run.proofs.Answers.{not-sound, no-start, no-end, no-first, no-second, found-sound, found-faces, found-rows, sized-by}
 use borrow.Author.Needs.{needs}
 use Rattle.run.proofs.run_answer.Statement.{statement}
 use Rattle.run.proofs.run_answer.Tie as tie
@@ -57,22 +57,24 @@ returns-5 c = let h = c .before .before in
     no-second (w .s) (w .a) (w .p) (w .b) (w .q) (is-so e) (f .if2 .left) (g .if3 .left) (h .if4 .left) (c .if5 .taken)
 
 join-answer-requires : tie.Need-join-answer-requires
-join-answer-requires c κs = let i = c .before .before in
+join-answer-requires c κs = let i = c .before .before .before .before in
     let h = i .before .before in
     let g = h .before .before in
     let f = g .before .before in
     let e = f .before .before in
     let looked = e .before .before in
-    let w = looked .before .args in
-    record {
-      sized = sized (looked .before);
-      accepted = is-so e;
-      faced = found-faces (w .s) _ (looked .examine .ensures) (is-so e);
-      a-in = f .if2 .left;
-      b-in = g .if3 .left;
-      p-in = h .if4 .left;
-      q-in = i .if5 .left;
-    }
+    let w = looked .before .args in (
+      record {
+        sized = sized (looked .before);
+        accepted = is-so e;
+        faced = found-faces (w .s) _ (looked .examine .ensures) (is-so e);
+        a-in = f .if2 .left;
+        b-in = g .if3 .left;
+        p-in = h .if4 .left;
+        q-in = i .if5 .left;
+      },
+      found-rows (w .s) _ (looked .examine .ensures) (is-so e),
+    )
 
 returns-6 : tie.Need-returns-6
 returns-6 c = c .join-answer .ensures
