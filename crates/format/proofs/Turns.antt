@@ -16,7 +16,8 @@ use Rattle.counting.proofs.Iterate.{by-bool}
 use Rattle.text.specs.declared.Numbers.{Numbers}
 use Rattle.text.specs.Reading.{Listed, lineAt, numbersOf}
 use Rattle.text.specs.Reading.Listed.{listed, unlisted}
-use Rattle.text.specs.Shapes.{withOne, withSome}
+use Rattle.text.specs.declared.Pair.the-variants.{Two, Other}
+use Rattle.text.specs.Shapes.{withOne, withSome, pairOf}
 use Rattle.text.proofs.Counted.{one-is, one-not, two-is, two-not}
 use Rattle.sheet.specs.declared.Sheet.{Sheet}
 use Rattle.sheet.specs.Darts.{dartAt}
@@ -105,28 +106,25 @@ module _ (text : List ℕ) (n m : ℕ) (whole : Parsed) (at k : ℕ) (tails head
   unfolding edgeLines
   edges-over h = let z : m - k ≡ 0 = omega arith in rw z at rest
 
-  module _ (more : k < m) (r : Numbers) (e : r ≡ numbersOf (lineAt wireKey text at)) where
-    pub edge-line-bad : (r .count ≡ 2 → ⊥) → refused BadLayout ≡ whole
+  module _ (more : k < m) where
+    pub edge-line-bad : pairOf (lineAt wireKey text at) ≡ Other → refused BadLayout ≡ whole
     unfolding edgeLines
-    edge-line-bad h =
+    edge-line-bad e =
         let z : m - k ≡ suc (m - (k + 1)) = omega arith in
-        sym (two-not (refused BadLayout) _ (lineAt wireKey text at) (rw e at h)) ∙ rw z at rest
+        sym (two-not (refused BadLayout) _ (lineAt wireKey text at) e) ∙ rw z at rest
 
-    module _ (two : r .count ≡ 2) where
-      pub edge-bad : Joins n (getD (r .values) 0 0) (getD (r .values) 1 0) ≡ false → refused BadEdge ≡ whole
+    module _ (a b next : ℕ) (e : pairOf (lineAt wireKey text at) ≡ Two a b next) where
+      pub edge-bad : Joins n a b ≡ false → refused BadEdge ≡ whole
       unfolding edgeLines
-      edge-bad h =
+      edge-bad test =
           let z : m - k ≡ suc (m - (k + 1)) = omega arith in
-          let test = rw e at h in
-          rw test at (sym (two-is (refused BadLayout) _ (lineAt wireKey text at) (rw e at two)) ∙ rw z at rest)
+          rw test at (sym (two-is (refused BadLayout) _ (lineAt wireKey text at) a b next e) ∙ rw z at rest)
 
-      pub edge-good : Joins n (getD (r .values) 0 0) (getD (r .values) 1 0) ≡ true
-          → edgeLines (m - (k + 1)) text (sheetOf n m (set tails k (getD (r .values) 0 0)) (set heads k (getD (r .values) 1 0)) noNexts) (k + 1) (r .next) ≡ whole
+      pub edge-good : Joins n a b ≡ true → edgeLines (m - (k + 1)) text (sheetOf n m (set tails k a) (set heads k b) noNexts) (k + 1) next ≡ whole
       unfolding edgeLines withEdge
-      edge-good h =
+      edge-good test =
           let z : m - k ≡ suc (m - (k + 1)) = omega arith in
-          let test = rw e at h in
-          rw e (rw test at (sym (two-is (refused BadLayout) _ (lineAt wireKey text at) (rw e at two)) ∙ rw z at rest))
+          rw test at (sym (two-is (refused BadLayout) _ (lineAt wireKey text at) a b next e) ∙ rw z at rest)
 
 -- one edge more
 pub joint-more : (n k a b : ℕ) (tails heads : List ℕ) → k < length tails → k < length heads → Joins n a b ≡ true

@@ -8,6 +8,7 @@ ghost use Rattle.text.specs.Reading.{lineAt};
 ghost use Rattle.format.specs.Steps.{countOf, EdgesRead};
 use answers::Answer;
 use counting::wide;
+use text::Pair;
 
 // A count with the place after its line, or a refusal.
 pub enum Count {
@@ -58,20 +59,19 @@ pub fn edge_lines(
     let mut at = start;
     let mut k = 0;
     while k < m {
-        let read = text::line(text, at, b"wire=");
-        if read.count != 2 {
-            return Step::Refused(Answer::BadLayout);
+        let read = text::pair_line(text, at, b"wire=");
+        match read {
+            Pair::Other => return Step::Refused(Answer::BadLayout),
+            Pair::Two(a, b, next) => {
+                if !clauses::joins(n, a, b) {
+                    return Step::Refused(Answer::BadEdge);
+                }
+                tails[k] = a;
+                heads[k] = b;
+                at = next;
+                k += 1;
+            }
         }
-        let values = read.values;
-        let a = values[0];
-        let b = values[1];
-        if !clauses::joins(n, a, b) {
-            return Step::Refused(Answer::BadEdge);
-        }
-        tails[k] = a;
-        heads[k] = b;
-        at = read.next;
-        k += 1;
     }
     Step::Next(at)
 }

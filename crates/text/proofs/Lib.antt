@@ -3,3 +3,4 @@ pub mod Keys
 pub mod Listing
 pub mod Closing
 pub mod Counted
+pub mod Pairs

@@ -1,6 +1,8 @@
 -- Lines by how many numbers they have: `bad` where a line has another layout.
 use Prim.Native.Nat.{ℕ}
 use mathlib.Core.List.{List, [], _∷_}
+use Rattle.text.specs.declared.Pair.{Pair}
+use Rattle.text.specs.declared.Pair.the-variants.{Two, Other}
 use Rattle.text.specs.Reading.{Listed}
 use Rattle.text.specs.Reading.Listed.{listed, unlisted}
 
@@ -31,3 +33,7 @@ withFour (listed (a ∷ b ∷ c ∷ d ∷ e ∷ vs) next) bad good = bad
 unfoldable pub withSome : {A : Type 0} → Listed → A → (List ℕ → ℕ → A) → A
 withSome unlisted bad good = bad
 withSome (listed vs next) bad good = good vs next
+
+-- the two numbers of a line
+abbrev pub pairOf : Listed → Pair
+pairOf l = withTwo l Other Two

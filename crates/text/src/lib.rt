@@ -2,7 +2,8 @@
 ghost use mathlib.Core.Path.{_≡_};
 ghost use mathlib.Core.Bool.{cond};
 ghost use lib.ListN.{length, getD, drop, set};
-ghost use Rattle.text.specs.Reading.{digitAt, numberAt, startsWith, lineEndAt, unlisted, numbersAt, lineAt, lastLineAt, numbersOf};
+ghost use Rattle.text.specs.Reading.{digitAt, numberAt, startsWith, lineEndAt, unlisted, before, numbersAt, closed, lineAt, lastLineAt, numbersOf};
+ghost use Rattle.text.specs.Shapes.{pairOf};
 
 // A number that stands at a place of the text, with the place after it, or none.
 pub enum Number {
@@ -17,6 +18,12 @@ pub struct Numbers {
     pub count: usize,
     pub values: [u16; 4],
     pub next: usize,
+}
+
+// The two numbers of a line that has two, with the place after the line; or a line of another layout.
+pub enum Pair {
+    Two(u16, u16, usize),
+    Other,
 }
 
 // The byte at a place, 0 past the end.
@@ -194,4 +201,40 @@ pub fn last_line(s: &[u8], at: usize, key: &[u8]) -> Numbers
     ensures { λ r. ⌜ r ≡ numbersOf (lastLineAt (now (key .entry)) (now (s .entry)) at) ⌝ }
 {
     shape(s, at, key, true)
+}
+
+// From the second number of a line on, whose first is a.
+fn second(s: &[u8], a: u16, at: usize) -> Pair
+    ensures { λ r. ⌜ r ≡ pairOf (closed (now (s .entry)) (before a (numbersAt (now (s .entry)) at))) ⌝ }
+{
+    let read = number_at(s, at);
+    match read {
+        Number::Missing => Pair::Other,
+        Number::Value(b, next) => {
+            let end = line_end(s, next);
+            if end == 0 {
+                return Pair::Other;
+            }
+            Pair::Two(a, b, next + end)
+        }
+    }
+}
+
+// A whole line that may have two numbers only. They go through no array, whose stores a read of the whole would wait for.
+pub fn pair_line(s: &[u8], at: usize, key: &[u8]) -> Pair
+    ensures { λ r. ⌜ r ≡ pairOf (lineAt (now (key .entry)) (now (s .entry)) at) ⌝ }
+{
+    if !starts_with(s, at, key) {
+        return Pair::Other;
+    }
+    let read = number_at(s, at + key.len());
+    match read {
+        Number::Missing => Pair::Other,
+        Number::Value(a, next) => {
+            if byte(s, next) != 44 {
+                return Pair::Other;
+            }
+            second(s, a, next + 1)
+        }
+    }
 }

@@ -3,6 +3,10 @@ use mathlib.Core.Path.{_≡_, refl, sym, _∙_}
 use lib.ListN.{length, length-set}
 use native.Mathlib.Omega.{arith}
 use borrow.Author.Tests.{not-true, not-false}
+use Rattle.text.specs.declared.Pair.the-variants.{Two}
+use Rattle.text.specs.Reading.{lineAt}
+use Rattle.text.specs.Shapes.{pairOf}
+use Rattle.text.specs.Keys.{wireKey}
 use Rattle.answers.specs.declared.Answer.the-variants.{BadLayout, BadEdge}
 use Rattle.format.specs.Load.{edgeLines}
 use Rattle.sheet.specs.Darts.{sheetOf}
@@ -25,33 +29,37 @@ loop-holds c =
     let z : c .before .args .m - 0 ≡ c .before .args .m = omega arith in
     (search needs, rw z refl, (λ i l. absurd (omega arith)), search needs, search needs)
 
-slice-aggregate-line : tie.Need-slice-aggregate-line Inv-loop μ-loop
-slice-aggregate-line c = search needs
+slice-aggregate-pair-line : tie.Need-slice-aggregate-pair-line Inv-loop μ-loop
+slice-aggregate-pair-line c = search needs
 
-line-requires : tie.Need-line-requires Inv-loop μ-loop
-line-requires c κs = search needs
+pair-line-requires : tie.Need-pair-line-requires Inv-loop μ-loop
+pair-line-requires c κs = search needs
+
+enum-told : tie.Need-enum-told Inv-loop μ-loop
+enum-told c = search needs
 
 returns : tie.Need-returns Inv-loop μ-loop
 returns c =
     let line = c .before .before in
     let loop = line .before .before .before in
-    edges-refused _ _ _ _ _ _ _ _ BadLayout (edge-line-bad _ _ _ _ _ _ _ _ (loop .loop .inv .1) (line .before .before .loop-test .taken) _ (line .line .ensures) (c .if1 .taken))
+    edges-refused _ _ _ _ _ _ _ _ BadLayout (edge-line-bad _ _ _ _ _ _ _ _ (loop .loop .inv .1) (line .before .before .loop-test .taken) (sym (line .pair-line .ensures) ∙ c .enum-told .given .1))
 
-array-read-a : tie.Need-array-read-a Inv-loop μ-loop
-array-read-a c = search needs
-
-array-read-b : tie.Need-array-read-b Inv-loop μ-loop
-array-read-b c = search needs
+enum-known-read : tie.Need-enum-known-read Inv-loop μ-loop
+enum-known-read c = search needs
 
 joins-requires : tie.Need-joins-requires Inv-loop μ-loop
 joins-requires c κs = search needs
 
+-- the two numbers of the line
+pair : (c : tie.After-read Inv-loop μ-loop) → pairOf (lineAt wireKey (c .before .before .before .before .before .before .before .args .text .now) (c .before .before .before .before .before .loop .at)) ≡ Two (c .read .given .0 .0) (c .read .given .0 .1 .0) (c .read .given .0 .1 .1 .0)
+pair c = sym (c .before .before .pair-line .ensures) ∙ c .read .given .1
+
 returns-2 : tie.Need-returns-2 Inv-loop μ-loop
 returns-2 c =
-    let values = c .before .before .before in
-    let line = values .before .before in
+    let read = c .before .before .before in
+    let line = read .before .before in
     let loop = line .before .before .before in
-    edges-refused _ _ _ _ _ _ _ _ BadEdge (edge-bad _ _ _ _ _ _ _ _ (loop .loop .inv .1) (line .before .before .loop-test .taken) _ (line .line .ensures) (values .if1 .left) (sym (c .before .joins .ensures) ∙ not-true _ (c .if2 .taken)))
+    edges-refused _ _ _ _ _ _ _ _ BadEdge (edge-bad _ _ _ _ _ _ _ _ (loop .loop .inv .1) (line .before .before .loop-test .taken) _ _ _ (pair read) (sym (c .before .joins .ensures) ∙ not-true _ (c .if1 .taken)))
 
 mul-tails : tie.Need-mul-tails Inv-loop μ-loop
 mul-tails c = search needs
@@ -73,11 +81,11 @@ loop-less c = search needs
 
 loop-again : tie.Need-loop-again Inv-loop μ-loop
 loop-again c =
-    let values = c .before .before .before in
-    let line = values .before .before in
+    let read = c .before .before .before in
+    let line = read .before .before in
     let loop = line .before .before .before in
-    let test = sym (c .before .joins .ensures) ∙ not-false _ (c .if2 .left) in
-    (search needs, edge-good _ _ _ _ _ _ _ _ (loop .loop .inv .1) (line .before .before .loop-test .taken) _ (line .line .ensures) (values .if1 .left) test, joint-more _ _ _ _ _ _ (omega arith) (omega arith) test (loop .loop .inv .2), simp length-set (loop .loop .inv .3), simp length-set (loop .loop .inv .4))
+    let test = sym (c .before .joins .ensures) ∙ not-false _ (c .if1 .left) in
+    (search needs, edge-good _ _ _ _ _ _ _ _ (loop .loop .inv .1) (line .before .before .loop-test .taken) _ _ _ (pair read) test, joint-more _ _ _ _ _ _ (omega arith) (omega arith) test (loop .loop .inv .2), simp length-set (loop .loop .inv .3), simp length-set (loop .loop .inv .4))
 
 returns-3 : tie.Need-returns-3 Inv-loop μ-loop
 returns-3 c =
@@ -91,11 +99,11 @@ edge-lines-spec =
     Inv-loop
     μ-loop
     loop-holds
-    slice-aggregate-line
-    line-requires
+    slice-aggregate-pair-line
+    pair-line-requires
+    enum-told
     returns
-    array-read-a
-    array-read-b
+    enum-known-read
     joins-requires
     returns-2
     mul-tails
