@@ -12,10 +12,10 @@ pub fn apply(s: Sheet, e: Edit) -> Edited
     ensures { λ r. ⌜ r ≡ apply s e ⌝ }
 {
     match e {
-        Edit::In(k) => change::put_in(s, wide(k)),
+        Edit::In(k) => putin::put_in(s, wide(k)),
         Edit::Run(a, p, b, q) => run::run(s, wide(a), wide(p), wide(b), wide(q)),
-        Edit::Out(k) => takeout::take_out_edge(s, wide(k)),
-        Edit::Off(v) => takeout::take_out_vertex(s, wide(v)),
-        Edit::Refused => change::refuse(Answer::BadLayout, s),
+        Edit::Out(k) => takeoutedge::take_out_edge(s, wide(k)),
+        Edit::Off(v) => takeoutvertex::take_out_vertex(s, wide(v)),
+        Edit::Refused => edit::refuse(Answer::BadLayout, s),
     }
 }

@@ -15,7 +15,7 @@ fn digits(v: u16) -> usize
 }
 
 // Puts bytes at a place of the buffer, and returns the place after them.
-fn put_bytes(out: &mut [u8], at: usize, bytes: &[u8]) -> usize
+pub fn put_bytes(out: &mut [u8], at: usize, bytes: &[u8]) -> usize
     requires { ⌜ at + length (now bytes) ≤ length (now out) ⌝ }
     ensures { λ r. ⌜ (r ≡ at + length (now (bytes .entry))) × (now (out .exit) ≡ sets (now (out .entry)) at (now (bytes .entry))) ⌝ }
 {
@@ -31,7 +31,7 @@ fn put_bytes(out: &mut [u8], at: usize, bytes: &[u8]) -> usize
 
 // Puts a number's digits. The three of hundreds, tens and ones are stored one after the other, each over the one before it where that
 // leads: so no branch hangs on the number.
-fn put_number(out: &mut [u8], at: usize, v: u16) -> usize
+pub fn put_number(out: &mut [u8], at: usize, v: u16) -> usize
     requires { ⌜ at + length (decimal v) ≤ length (now out) ⌝ }
     ensures { λ r. ⌜ (r ≡ at + length (decimal v)) × (now (out .exit) ≡ sets (now (out .entry)) at (decimal v)) ⌝ }
 {
@@ -44,7 +44,7 @@ fn put_number(out: &mut [u8], at: usize, v: u16) -> usize
 }
 
 // Puts a comma and a number.
-fn put_next(out: &mut [u8], at: usize, v: u16) -> usize
+pub fn put_next(out: &mut [u8], at: usize, v: u16) -> usize
     requires { ⌜ at + length (44 ∷ decimal v) ≤ length (now out) ⌝ }
     ensures { λ r. ⌜ (r ≡ at + length (44 ∷ decimal v)) × (now (out .exit) ≡ sets (now (out .entry)) at (44 ∷ decimal v)) ⌝ }
 {
@@ -53,7 +53,7 @@ fn put_next(out: &mut [u8], at: usize, v: u16) -> usize
 }
 
 // Puts a line's end.
-fn put_line_end(out: &mut [u8], at: usize) -> usize
+pub fn put_line_end(out: &mut [u8], at: usize) -> usize
     requires { ⌜ at + length lineEnd ≤ length (now out) ⌝ }
     ensures { λ r. ⌜ (r ≡ at + length lineEnd) × (now (out .exit) ≡ sets (now (out .entry)) at lineEnd) ⌝ }
 {

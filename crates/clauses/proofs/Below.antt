@@ -9,7 +9,7 @@ use lib.ListN.{getD, set, length, replicate, List·getD-append}
 use lib.Seq.{set-at, append-snoc}
 use Rattle.counting.specs.Below.{allBelow, tabulate}
 use Rattle.counting.proofs.Below.{length-tabulate, getD-tabulate}
-use Rattle.clauses.specs.Arrays.{zeroAt, dartTable}
+use Rattle.clauses.specs.Contracts.{zeroAt, dartTable}
 
 pub zero-read : (from n : ℕ) (table : List ℕ) (r b : Bool) → length table ≡ n → r ≡ allBelow (zeroAt from table) (length table) → r ≡ b → allBelow (zeroAt from table) n ≡ b
 zero-read from n table r b l e q = rw (← l) (sym e ∙ q)

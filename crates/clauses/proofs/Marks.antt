@@ -11,7 +11,7 @@ use lib.Dec.{eqb}
 use lib.ListN.{getD, set, length-set, replicate}
 use lib.Seq.{getD-set-same, getD-set-other, ext-getD}
 use Rattle.counting.specs.Below.{someBelow, tabulate}
-use Rattle.clauses.specs.Arrays.{endOf, poleAt}
+use Rattle.clauses.specs.Contracts.{endOf, poleAt}
 use Rattle.counting.proofs.Below.{length-tabulate, getD-tabulate}
 
 pub marks-none : (ends : List ℕ) → replicate 256 false ≡ tabulate (endOf ends 0) 256

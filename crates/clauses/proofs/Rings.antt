@@ -1,41 +1,36 @@
--- One ring at each vertex: the rings are numbered by their vertices. Assumes nothing.
-use Prim.Native.Nat.{ℕ, suc, _+_, _*_, _/_, _≤_, _<_}
+-- One ring at each vertex: the ring of one dart of each has as many darts as the vertex, all at it. Assumes nothing.
+use Prim.Native.Nat.{ℕ, zero, suc, _+_, _-_, _*_, _/_, _≤_, _<_}
 use mathlib.Core.Path.{_≡_, refl, sym, ap, _∙_}
 use mathlib.Core.Logic.{_≢_, _⊎_, inl, inr, ⊎-elim, by-cases}
 use mathlib.Core.Bool.{Bool, true, false, not, _&&_, _||_}
 use mathlib.Core.List.{List}
-use native.Mathlib.Decide.{ℕ-discrete}
+use native.Mathlib.Decide.{ℕ-discrete, decLt}
 use native.Mathlib.Numerals.{add-one}
 use native.Mathlib.Omega.{arith}
 use borrow.Author.Tests.{eq-eqb, ne-eqb, eqb-true}
 use lib.Dec.{eqb}
-use lib.ListN.{getD, set, length, length-set, replicate, length-replicate, getD-replicate}
+use lib.ListN.{getD, set, length-set, replicate, length-replicate, getD-replicate}
 use Rattle.counting.specs.Below.{allBelow}
+use Rattle.counting.specs.Counts.{bit, count}
 use Rattle.counting.specs.Orbits.{Perm, iter, Reach}
-use Rattle.counting.proofs.Iterate.{by-bool, clash}
+use Rattle.counting.proofs.Counts.{all, count-all, count-without, count-room, room-onto, Onto, onto-count, onto-injective}
+use Rattle.counting.proofs.Iterate.{by-bool, clash, iter-add, around}
 use Rattle.counting.proofs.Below.{all-at, all-of}
-use Rattle.counting.proofs.Reach.{iter-below, returns, reach-trans, reach-sym}
-use Rattle.counting.proofs.Orbits.{kept-reach}
+use Rattle.counting.proofs.Reach.{iter-one-one, reach-trans, reach-sym}
 use Rattle.counting.proofs.Stores.{Stored, stored}
 use Rattle.counting.proofs.Stores.Stored.{here, apart}
 use Rattle.orbits.specs.Tables.{traced, isPermutation}
 use Rattle.orbits.specs.Meaning.{entries, Numbering}
 use Rattle.orbits.proofs.Distinct.{permutation-law}
 use Rattle.orbits.proofs.Numbering.{traced-law}
-use Rattle.orbits.proofs.Walks.{Walk, walk-on, walked-all}
 use Rattle.clauses.specs.Darts.{isTail}
-use Rattle.clauses.specs.Arrays.{Ends, dartTable, vertexOf, ringAt, Readable, Held, Rounded, numberedAt, ringsOf}
+use Rattle.clauses.specs.Contracts.{Ends, dartTable, vertexOf, ringAt, Readable, Held, Degrees, OneRingEach, Round, ringsIn}
 use Rattle.clauses.proofs.Below.{dart-at}
 
 -- of two tests
 split : (a b : Bool) → (a && b) ≡ true → (a ≡ true) × (b ≡ true)
 split true b q = (refl, q)
 split false b q = clash q refl
-
-same-truth : (a b : Bool) → (a ≡ true → b ≡ true) → (b ≡ true → a ≡ true) → a ≡ b
-same-truth true b f g = sym (f refl)
-same-truth false true f g = g refl
-same-truth false false f g = refl
 
 -- ---- a dart of each vertex
 
@@ -64,197 +59,238 @@ held-more {k} {at} {held} h v e b = record {
     of-d d l (here p q) = omega (arith, q)
     of-d d l (apart n q) = by-cases (ℕ-discrete d k) (λ z. absurd (n (ap (λ x. getD at x 0) z ∙ sym e))) (λ z. omega (arith, q, h .some d (omega arith)))
 
+-- ---- how many darts a vertex has
+
+pub degrees-none : (at : List ℕ) → Degrees 0 at (replicate 128 0)
+unfolding count
+degrees-none at = record { size = length-replicate {A = ℕ} 128 0; counts = λ v l. getD-replicate {A = ℕ} 128 v 0 0 l }
+
+pub degrees-more : {k : ℕ} {at degree : List ℕ} → Degrees k at degree → (v : ℕ) → v ≡ getD at k 0 → v < 128 → Degrees (k + 1) at (set degree v (getD degree v 0 + 1))
+unfolding count
+degrees-more {k} {at} {degree} D v e b = record { size = length-set degree v _ ∙ D .size; counts = λ x l. go x l (stored degree v _ x 0 (omega (arith, D .size))) }
+  where
+    go : (x : ℕ) → x < 128 → Stored degree v (getD degree v 0 + 1) x 0 → getD (set degree v (getD degree v 0 + 1)) x 0 ≡ count (λ d. eqb (getD at d 0) x) (k + 1)
+    go x l (here p q) = rw (add-one k) (omega (arith, q, ap bit (eq-eqb (getD at k 0) x (sym e ∙ sym p)), D .counts x l, ap (λ y. getD degree y 0) p))
+    go x l (apart n q) = rw (add-one k) (omega (arith, q, ap bit (ne-eqb (getD at k 0) x (λ p. n (sym p ∙ sym e))), D .counts x l))
+
 -- ---- once round a ring
 
--- after some steps from `start`, which did not return
-pub record Rounding (n : ℕ) (nexts : List ℕ) (start v : ℕ) (ring₀ ring : List ℕ) (d steps : ℕ) : Type 0 where
-  pub few : steps ≤ n
+-- after some steps from `start`, which kept to darts of v and did not return
+pub record Going (n : ℕ) (at nexts : List ℕ) (start v d steps : ℕ) : Type 0 where
   pub place : d ≡ iter (entries nexts) steps start
-  pub walk : Walk (entries nexts) ring₀ ring start v steps
-  pub out : (j : ℕ) → j < steps → iter (entries nexts) (suc j) start ≢ start
+  pub out : (j : ℕ) → 0 < j → j ≤ steps → iter (entries nexts) j start ≢ start
+  pub inside : (j : ℕ) → j ≤ steps → iter (entries nexts) j start < n
+  pub there : (j : ℕ) → j ≤ steps → getD at (iter (entries nexts) j start) 0 ≡ v
 
-pub round-none : (n : ℕ) (nexts : List ℕ) (start v : ℕ) {ring : List ℕ} → length ring ≡ 512 → Rounding n nexts start v ring ring start 0
-round-none n nexts start v full = record {
-  few = omega arith;
+pub going-none : {n : ℕ} {at : List ℕ} (nexts : List ℕ) {start v : ℕ} → start < n → getD at start 0 ≡ v → Going n at nexts start v start 0
+going-none nexts h e = record {
   place = refl;
-  walk = record { full = full; new = λ j l. absurd (omega arith); kind = λ d. inl refl };
-  out = λ j l. absurd (omega arith);
+  out = λ j a l. absurd (omega arith);
+  inside = λ j l. let z : j ≡ 0 = omega arith in rw z h;
+  there = λ j l. let z : j ≡ 0 = omega arith in rw z e;
 }
 
-module _ {n : ℕ} {nexts : List ℕ} (P : Perm n (entries nexts)) (fits : n ≤ 512) {start v : ℕ} (h : start < n) {ring₀ ring : List ℕ} {d steps : ℕ}
-    (R : Rounding n nexts start v ring₀ ring d steps) where
-  pub round-in : d < n
-  round-in = rw (R .place) (iter-below P steps start h)
-
-  -- a walk of as many steps as there are darts has returned
-  pub round-over : n ≤ steps → ⊥
-  round-over l = let (i, b, q) = returns P start h in R .out i (omega arith) q
+module _ {n : ℕ} {at nexts : List ℕ} {start v d steps : ℕ} (G : Going n at nexts start v d steps) where
+  pub going-in : d < n
+  going-in = rw (G .place) (G .inside steps (omega arith))
 
   module _ (e : ℕ) (next : e ≡ getD nexts d 0) where
-    on : Walk (entries nexts) ring₀ (set ring d v) start v (suc steps)
-    on = rw (R .place) (walk-on P fits h (R .walk))
-
     moved : e ≡ iter (entries nexts) (suc steps) start
-    moved = next ∙ ap (entries nexts) (R .place)
+    moved = next ∙ ap (entries nexts) (G .place)
 
-    pub round-end : e ≡ start → Rounded (entries nexts) start v ring₀ (set ring d v)
-    round-end q = record { full = on .full; new = walked-all on (sym moved ∙ q); old = on .kind }
+    pub going-outside : n ≤ e → OneRingEach n at nexts → ⊥
+    going-outside l O = omega (arith, O .permuted .below d going-in)
 
-    pub round-more : e ≢ start → steps < n → Rounding n nexts start v ring₀ (set ring d v) e (steps + 1)
-    round-more q l = rw (add-one steps) (record {
-      few = omega arith;
-      place = moved;
-      walk = on;
-      out = λ j b. by-cases (ℕ-discrete j steps) (λ z. rw z (λ w. q (moved ∙ w))) (λ z. R .out j (omega arith));
+    pub going-elsewhere : getD at e 0 ≢ v → OneRingEach n at nexts → ⊥
+    going-elsewhere ne O = ne (ap (entries at) next ∙ O .stays d going-in ∙ ap (entries at) (G .place) ∙ G .there steps (omega arith))
+
+    pub going-back : e ≡ start → Round n at nexts start v (steps + 1)
+    going-back q = rw (add-one steps) (record {
+      back = sym moved ∙ q;
+      first = λ j a l. G .out j a (omega arith);
+      inside = λ j l. G .inside j (omega arith);
+      there = λ j l. G .there j (omega arith);
     })
 
--- ---- the rings numbered
+    pub going-on : e < n → getD at e 0 ≡ v → e ≢ start → Going n at nexts start v e (steps + 1)
+    going-on b t q = rw (add-one steps) (record {
+      place = moved;
+      out = λ j a m. by-cases (ℕ-discrete j (suc steps)) (λ z. rw z (λ w. q (moved ∙ w))) (λ z. G .out j a (omega arith));
+      inside = λ j m. by-cases (ℕ-discrete j (suc steps)) (λ z. rw (z, ← moved) b) (λ z. G .inside j (omega arith));
+      there = λ j m. by-cases (ℕ-discrete j (suc steps)) (λ z. rw (z, ← moved) t) (λ z. G .there j (omega arith));
+    })
 
--- each dart's next dart is at its vertex
-abbrev Stays : ℕ → List ℕ → List ℕ → Type 0
-Stays n at nexts = (d : ℕ) → d < n → getD at (getD nexts d 0) 0 ≡ getD at d 0
+-- ---- what a round covers
 
--- the rings of the darts that are held for the vertices below v have those for numbers, where no dart leads to another vertex
-pub record Ringed (n : ℕ) (at nexts held : List ℕ) (v : ℕ) (ring : List ℕ) : Type 0 where
-  pub full : length ring ≡ 512
-  pub step : (d : ℕ) → d < n → getD ring (getD nexts d 0) 0 ≡ getD ring d 0
-  pub from : (d : ℕ) → d < n → (getD ring d 0 ≡ 512) ⊎ ((getD held (getD ring d 0) 0 < n) × Reach (entries nexts) (getD held (getD ring d 0) 0) d)
-  pub kept : Stays n at nexts → (u : ℕ) → u < v → getD held u 0 < n → (d : ℕ) → Reach (entries nexts) (getD held u 0) d → getD ring d 0 ≡ u
+-- dart d is on the ring of the dart that is held for its vertex
+pub record Covered (n : ℕ) (at nexts held : List ℕ) (d : ℕ) : Type 0 where
+  pub below : getD nexts d 0 < n
+  pub stays : getD at (getD nexts d 0) 0 ≡ getD at d 0
+  pub before : (e : ℕ) × (e < n) × (getD nexts e 0 ≡ d)
+  pub home : getD held (getD at d 0) 0 < n
+  pub from : Reach (entries nexts) (getD held (getD at d 0) 0) d
 
-module _ {n : ℕ} {at nexts held : List ℕ} (r : Readable n at nexts) (H : Held n at held) where
-  P : Perm n (entries nexts)
-  P = r .permuted
+module _ {n : ℕ} {at nexts : List ℕ} {s v r : ℕ} (some : 0 < r) (R : Round n at nexts s v r) where
+  -- its darts are different
+  apart-on : (i j : ℕ) → i < j → j < r → iter (entries nexts) i s ≢ iter (entries nexts) j s
+  apart-on i j l m e =
+      let z : (r - j) + j ≡ r = omega arith in
+      R .first ((r - j) + i) (omega arith) (omega arith)
+      (iter-add (entries nexts) (r - j) i s ∙ ap (iter (entries nexts) (r - j)) e ∙ sym (iter-add (entries nexts) (r - j) j s) ∙ ap (λ k. iter (entries nexts) k s) z ∙ R .back)
 
-  -- the dart that is held for a vertex is there
-  home : (u : ℕ) → u < 128 → getD held u 0 < n → getD at (getD held u 0) 0 ≡ u
-  home u l b = ⊎-elim (λ z. absurd (omega (arith, r .few))) (λ t. t .1) (H .there u l)
+  once : (i j : ℕ) → i < r → j < r → iter (entries nexts) i s ≡ iter (entries nexts) j s → i ≡ j
+  once i j l m e =
+      by-cases (decLt i j) (λ b. absurd (apart-on i j b m e))
+      (λ b. by-cases (decLt j i) (λ c. absurd (apart-on j i c l (sym e))) (λ c. omega arith))
 
-  pub ringed-none : Ringed n at nexts held 0 (replicate 512 512)
-  ringed-none = record {
-    full = length-replicate {A = ℕ} 512 512;
-    step = λ d l. bare (getD nexts d 0) (omega (arith, P .below d l, r .few)) ∙ sym (bare d (omega (arith, r .few)));
-    from = λ d l. inl (bare d (omega (arith, r .few)));
-    kept = λ S u l. absurd (omega arith);
-  }
+  -- and where they are as many as the vertex has, every dart of the vertex is among them
+  round-all : count (λ d. eqb (getD at d 0) v) n ≤ r → (d : ℕ) → d < n → getD at d 0 ≡ v → (i : ℕ) × (i < r) × (iter (entries nexts) i s ≡ d)
+  round-all full d l e =
+      room-onto (λ d. eqb (getD at d 0) v) n r (λ i. iter (entries nexts) i s) (λ i b. (R .inside i b, eq-eqb _ _ (R .there i b))) once full d l (eq-eqb _ _ e)
+
+  -- they are as many where all darts of the vertex are reached
+  round-full : ((d : ℕ) → d < n → getD at d 0 ≡ v → Reach (entries nexts) s d) → count (λ d. eqb (getD at d 0) v) n ≤ r
+  round-full reach = omega (arith, onto-count (λ i. iter (entries nexts) i s) all r (λ d. eqb (getD at d 0) v) n each, count-all r)
     where
-      bare : (d : ℕ) → d < 512 → getD {A = ℕ} (replicate 512 512) d 0 ≡ 512
-      bare d l = getD-replicate {A = ℕ} 512 d 512 0 l
+      each : Onto (λ i. iter (entries nexts) i s) all r (λ d. eqb (getD at d 0) v) n
+      each d l t =
+          let (k, q) = reach d l (eqb-true _ _ t) in
+          let (j, b, w) = around (entries nexts) s r some (R .back) k in
+          (j, b, refl, w ∙ q)
 
-  module _ {v : ℕ} {ring : List ℕ} (G : Ringed n at nexts held v ring) (start : ℕ) (es : start ≡ getD held v 0) where
+  round-covers : (held : List ℕ) → s ≡ getD held v 0 → (d : ℕ) → getD at d 0 ≡ v → (i : ℕ) × (i < r) × (iter (entries nexts) i s ≡ d) → Covered n at nexts held d
+  round-covers held es d e (i, l, q) =
+      let (j, b, w) = around (entries nexts) s r some (R .back) (suc i) in
+      let next : iter (entries nexts) j s ≡ getD nexts d 0 = w ∙ ap (entries nexts) q in
+      record {
+        below = rw (← next) (R .inside j b);
+        stays = rw (← next) (R .there j b) ∙ sym e;
+        before = before i l q;
+        home = rw (e, ← es) (R .inside 0 some);
+        from = rw (e, ← es) (i, q);
+      }
+    where
+      before : (i : ℕ) → i < r → iter (entries nexts) i s ≡ d → (e : ℕ) × (e < n) × (getD nexts e 0 ≡ d)
+      before zero l q = let z : suc (r - 1) ≡ r = omega arith in (iter (entries nexts) (r - 1) s, R .inside (r - 1) (omega arith), ap (λ k. iter (entries nexts) k s) z ∙ R .back ∙ q)
+      before (suc i) l q = (iter (entries nexts) i s, R .inside i (omega arith), q)
+
+module _ {n : ℕ} {at nexts : List ℕ} {start v d steps : ℕ} (G : Going n at nexts start v d steps) (O : OneRingEach n at nexts) (e : ℕ) (next : e ≡ getD nexts d 0) where
+  -- one ring is not closed before it has all darts of the vertex
+  pub going-early : e ≡ start → suc steps < count (λ d. eqb (getD at d 0) v) n → ⊥
+  going-early q l =
+      omega (arith, round-full (omega arith) (going-back G e next q) (λ x b y. O .joined start x (G .inside 0 (omega arith)) b (G .there 0 (omega arith) ∙ sym y)))
+
+  -- and then it is
+  pub going-long : e ≢ start → count (λ d. eqb (getD at d 0) v) n ≤ suc steps → ⊥
+  going-long q l = omega (
+    arith,
+    count-room (λ d. eqb (getD at d 0) v) n (suc (suc steps)) (λ i. iter (entries nexts) i start) (λ i b. (more .inside i (omega arith), eq-eqb _ _ (more .there i (omega arith))))
+        (λ i j b c. iter-one-one (O .permuted) (suc steps) start (G .inside 0 (omega arith)) (λ k m. more .out (suc k) (omega arith) (omega arith)) i j (omega arith) (omega arith)),
+  )
+    where
+      more : Going n at nexts start v e (suc steps)
+      more = rw (add-one steps) at (going-on G e next (rw next (O .permuted .below d (going-in G))) (ap (entries at) next ∙ O .stays d (going-in G) ∙ ap (entries at) (G .place) ∙ G .there steps (omega arith)) q)
+
+-- ---- the rings of all vertices
+
+-- the darts of the vertices below v are on the rings of the darts that are held for these
+pub record Ringed (n : ℕ) (at nexts held : List ℕ) (v : ℕ) : Type 0 where
+  pub covers : (d : ℕ) → d < n → getD at d 0 < v → Covered n at nexts held d
+
+-- the dart that is held for a vertex is there
+pub held-there : {n : ℕ} {at held : List ℕ} → Readable n at → Held n at held → (u : ℕ) → u < 128 → getD held u 0 < n → getD at (getD held u 0) 0 ≡ u
+held-there r H u l b = ⊎-elim (λ z. absurd (omega (arith, r .few))) (λ t. t .1) (H .there u l)
+
+module _ {n : ℕ} {at held : List ℕ} (nexts : List ℕ) (r : Readable n at) (H : Held n at held) where
+  pub ringed-none : Ringed n at nexts held 0
+  ringed-none = record { covers = λ d l b. absurd (omega arith) }
+
+  module _ {v : ℕ} (G : Ringed n at nexts held v) where
     -- no dart is at v
-    pub ringed-skip : n ≤ start → Ringed n at nexts held (v + 1) ring
-    ringed-skip l = record {
-      full = G .full;
-      step = G .step;
-      from = G .from;
-      kept = λ S u b i d t. by-cases (ℕ-discrete u v) (λ z. absurd (omega (arith, ap (λ x. getD held x 0) z))) (λ z. G .kept S u (omega arith) i d t);
+    pub ringed-skip : n ≤ getD held v 0 → Ringed n at nexts held (v + 1)
+    ringed-skip l = record { covers = λ d b m. by-cases (ℕ-discrete (getD at d 0) v) (λ z. absurd (omega (arith, ap (entries held) z, H .some d b))) (λ z. G .covers d b (omega arith)) }
+
+    pub ringed-more : (start : ℕ) → start ≡ getD held v 0 → start < n → {size : ℕ} → size ≡ count (λ d. eqb (getD at d 0) v) n → Round n at nexts start v size → Ringed n at nexts held (v + 1)
+    ringed-more start es h {size} many R = record {
+      covers = λ d b m. by-cases (ℕ-discrete (getD at d 0) v)
+          (λ z. let some : 0 < size = omega (arith, many, count-without (λ d. eqb (getD at d 0) v) n d b (eq-eqb _ _ z)) in
+          round-covers some R held es d z (round-all some R (omega (arith, many)) d b z))
+          (λ z. G .covers d b (omega arith));
     }
 
-    pub ringed-more : v < 128 → start < n → {ring′ : List ℕ} → Rounded (entries nexts) start v ring ring′ → Ringed n at nexts held (v + 1) ring′
-    ringed-more low h {ring′} R = record {
-      full = R .full;
-      step = λ d l. steps d l (R .old d) (R .old (getD nexts d 0));
-      from = λ d l. ⊎-elim (λ x. rw x (G .from d l)) (λ t. inr (numbered d t)) (R .old d);
-      kept = λ S u b i d t. by-cases (ℕ-discrete u v)
-          (λ z. R .new d (rw (z, ← es) at t) ∙ sym z)
-          (λ z. ⊎-elim (λ x. x ∙ G .kept S u (omega arith) i d t) (λ w. absurd (z (apart-from S u (omega arith) i d t w))) (R .old d));
-    }
-      where
-        steps : (d : ℕ) → d < n → (getD ring′ d 0 ≡ getD ring d 0) ⊎ Reach (entries nexts) start d
-            → (getD ring′ (getD nexts d 0) 0 ≡ getD ring (getD nexts d 0) 0) ⊎ Reach (entries nexts) start (getD nexts d 0) → getD ring′ (getD nexts d 0) 0 ≡ getD ring′ d 0
-        steps d l (inl x) (inl y) = y ∙ G .step d l ∙ sym x
-        steps d l (inl x) (inr t) = R .new (getD nexts d 0) t ∙ sym (R .new d (reach-trans t (reach-sym P l (1, refl))))
-        steps d l (inr t) k = R .new (getD nexts d 0) (reach-trans t (1, refl)) ∙ sym (R .new d t)
+  ringed-all : Ringed n at nexts held 128 → OneRingEach n at nexts
+  ringed-all G = record { permuted = P; stays = λ d l. on d l .stays; joined = λ d e i j q. reach-trans (reach-sym P (on d i .home) (on d i .from)) (rw (← q) at (on e j .from)) }
+    where
+      on : (d : ℕ) → d < n → Covered n at nexts held d
+      on d l = G .covers d l (r .at-in d l)
 
-        numbered : (d : ℕ) → Reach (entries nexts) start d → (getD held (getD ring′ d 0) 0 < n) × Reach (entries nexts) (getD held (getD ring′ d 0) 0) d
-        numbered d t = rw (R .new d t, ← es) (h, t)
+      P : Perm n (entries nexts)
+      P = record {
+        below = λ d l. on d l .below;
+        one-one = λ d e i j q.
+            onto-injective (entries nexts) all n all n (λ x l t. let (y, b, w) = on x l .before in (y, b, refl, w)) (omega arith) d e i refl j refl q;
+      }
 
-        -- the rings of two vertices have no dart in common
-        apart-from : Stays n at nexts → (u : ℕ) → u < 128 → getD held u 0 < n → (d : ℕ) → Reach (entries nexts) (getD held u 0) d → Reach (entries nexts) start d → u ≡ v
-        apart-from S u b i d t w =
-            sym (home u b i) ∙ kept-reach P (entries at) S (getD held u 0) d i t ∙ sym (kept-reach P (entries at) S start d h w)
-            ∙ ap (entries at) es ∙ home v low (omega (arith, es))
+-- ---- the same by the definitions that compute
 
-  -- ---- each dart has its vertex for a number exactly where there is one ring at each vertex
-
-  module _ {ring : List ℕ} (G : Ringed n at nexts held 128 ring) where
-    orbit : ℕ → ℕ
-    orbit d = getD (traced n nexts .orbit) d 0
-
+module _ (n : ℕ) (at nexts : List ℕ) (fits : n ≤ 512) where
+  module _ (O : OneRingEach n at nexts) where
     law : Numbering n nexts (traced n nexts)
-    law = traced-law n nexts (r .few) P
+    law = traced-law n nexts fits (O .permuted)
 
-    module _ (num : (d : ℕ) → d < n → getD at d 0 ≡ getD ring d 0) where
-      stay : Stays n at nexts
-      stay d l = num (getD nexts d 0) (P .below d l) ∙ G .step d l ∙ sym (num d l)
+    one : (d e : ℕ) → d < n → e < n → Dec (getD at d 0 ≡ getD at e 0) → (not (eqb (getD at d 0) (getD at e 0)) || eqb (getD (traced n nexts .orbit) d 0) (getD (traced n nexts .orbit) e 0)) ≡ true
+    one d e i j (yes q) = rw (eq-eqb (getD at d 0) (getD at e 0) q, eq-eqb _ _ (law .same d e i j .1 (O .joined d e i j q))) refl
+    one d e i j (no q) = rw (ne-eqb (getD at d 0) (getD at e 0) q) refl
 
-      comes : (d : ℕ) → d < n → (getD held (getD at d 0) 0 < n) × Reach (entries nexts) (getD held (getD at d 0) 0) d
-      comes d l = rw (num d l) (⊎-elim (λ z. absurd (omega (arith, num d l, r .at-in d l))) (λ t. t) (G .from d l))
+    right : ringsIn n at nexts ≡ true
+    unfolding ringsIn ringAt
+    right =
+        rw (permutation-law n nexts .1 (fits, O .permuted))
+        (all-of (ringAt n at nexts (traced n nexts .orbit)) n (λ d l.
+        rw (
+          eq-eqb (getD at (getD nexts d 0) 0) (getD at d 0) (O .stays d l),
+          all-of (λ e. not (eqb (getD at d 0) (getD at e 0)) || eqb (getD (traced n nexts .orbit) d 0) (getD (traced n nexts .orbit) e 0)) n (λ e i. one d e l i (ℕ-discrete (getD at d 0) (getD at e 0))),
+        ) refl))
 
-      joined : (d e : ℕ) → d < n → e < n → getD at d 0 ≡ getD at e 0 → getD (traced n nexts .orbit) d 0 ≡ getD (traced n nexts .orbit) e 0
-      joined d e i j q =
-          let (b, t) = comes d i in
-          let (b′, t′) = rw (← q) at (comes e j) in
-          law .same d e i j .1 (reach-trans (reach-sym P b t) t′)
+  module _ (good : ringsIn n at nexts ≡ true) where
+    parts : (isPermutation n nexts ≡ true) × (allBelow (ringAt n at nexts (traced n nexts .orbit)) n ≡ true)
+    unfolding ringsIn
+    parts = split _ _ good
 
-      one : (d e : ℕ) → d < n → e < n → Dec (getD at d 0 ≡ getD at e 0) → (not (eqb (getD at d 0) (getD at e 0)) || eqb (getD (traced n nexts .orbit) d 0) (getD (traced n nexts .orbit) e 0)) ≡ true
-      one d e i j (yes q) = rw (eq-eqb (getD at d 0) (getD at e 0) q, eq-eqb _ _ (joined d e i j q)) refl
-      one d e i j (no q) = rw (ne-eqb (getD at d 0) (getD at e 0) q) refl
+    P : Perm n (entries nexts)
+    P = permutation-law n nexts .0 (parts .0) .1
 
-      all-right : allBelow (ringAt n at nexts (traced n nexts .orbit)) n ≡ true
-      unfolding ringAt
-      all-right = all-of (ringAt n at nexts (traced n nexts .orbit)) n (λ d l.
-          rw (
-            eq-eqb (getD at (getD nexts d 0) 0) (getD at d 0) (stay d l),
-            all-of (λ e. not (eqb (getD at d 0) (getD at e 0)) || eqb (getD (traced n nexts .orbit) d 0) (getD (traced n nexts .orbit) e 0)) n (λ e i. one d e l i (ℕ-discrete (getD at d 0) (getD at e 0))),
-          ) refl)
+    both : (d : ℕ) → d < n → (eqb (getD at (getD nexts d 0) 0) (getD at d 0) ≡ true)
+        × (allBelow (λ e. not (eqb (getD at d 0) (getD at e 0)) || eqb (getD (traced n nexts .orbit) d 0) (getD (traced n nexts .orbit) e 0)) n ≡ true)
+    unfolding ringAt
+    both d l = split _ _ (all-at (ringAt n at nexts (traced n nexts .orbit)) n (parts .1) d l)
 
-    module _ (good : allBelow (ringAt n at nexts (traced n nexts .orbit)) n ≡ true) where
-      both : (d : ℕ) → d < n → (eqb (getD at (getD nexts d 0) 0) (getD at d 0) ≡ true)
-          × (allBelow (λ e. not (eqb (getD at d 0) (getD at e 0)) || eqb (getD (traced n nexts .orbit) d 0) (getD (traced n nexts .orbit) e 0)) n ≡ true)
-      unfolding ringAt
-      both d l = split _ _ (all-at (ringAt n at nexts (traced n nexts .orbit)) n good d l)
+    in-one : (d e : ℕ) → d < n → e < n → getD at d 0 ≡ getD at e 0 → getD (traced n nexts .orbit) d 0 ≡ getD (traced n nexts .orbit) e 0
+    in-one d e i j q =
+        eqb-true _ _ (rw (eq-eqb (getD at d 0) (getD at e 0) q) at
+        (all-at (λ x. not (eqb (getD at d 0) (getD at x 0)) || eqb (getD (traced n nexts .orbit) d 0) (getD (traced n nexts .orbit) x 0)) n (both d i .1) e j))
 
-      stays : Stays n at nexts
-      stays d l = eqb-true _ _ (both d l .0)
+    one-ring-each : OneRingEach n at nexts
+    one-ring-each = record {
+      permuted = P;
+      stays = λ d l. eqb-true _ _ (both d l .0);
+      joined = λ d e i j q. traced-law n nexts fits P .same d e i j .0 (in-one d e i j q);
+    }
 
-      in-one : (d e : ℕ) → d < n → e < n → getD at d 0 ≡ getD at e 0 → getD (traced n nexts .orbit) d 0 ≡ getD (traced n nexts .orbit) e 0
-      in-one d e i j q =
-          eqb-true _ _ (rw (eq-eqb (getD at d 0) (getD at e 0) q) at
-          (all-at (λ x. not (eqb (getD at d 0) (getD at x 0)) || eqb (getD (traced n nexts .orbit) d 0) (getD (traced n nexts .orbit) x 0)) n (both d i .1) e j))
+  pub rings-refused : (OneRingEach n at nexts → ⊥) → false ≡ ringsIn n at nexts
+  rings-refused f = by-bool (ringsIn n at nexts) (λ t. absurd (f (one-ring-each t))) (λ t. sym t)
 
-      all-numbered : allBelow (numberedAt at ring) n ≡ true
-      unfolding numberedAt
-      all-numbered = all-of (numberedAt at ring) n (λ d l.
-          let u = getD at d 0 in
-          let b = H .some d l in
-          let t = law .same (getD held u 0) d b l .0 (in-one (getD held u 0) d b l (home u (r .at-in d l) b)) in
-          eq-eqb (getD at d 0) (getD ring d 0) (sym (G .kept stays u (r .at-in d l) b d t)))
-
-    pub rings-numbered : allBelow (numberedAt at ring) n ≡ allBelow (ringAt n at nexts (traced n nexts .orbit)) n
-    unfolding numberedAt
-    rings-numbered = same-truth _ _ (λ t. all-right (λ d l. eqb-true _ _ (all-at (numberedAt at ring) n t d l))) all-numbered
+pub rings-met : {n : ℕ} {at held : List ℕ} (nexts : List ℕ) (r : Readable n at) → Held n at held → Ringed n at nexts held 128 → true ≡ ringsIn n at nexts
+rings-met {n} {at} nexts r H G = sym (right n at nexts (r .few) (ringed-all nexts r H G))
 
 -- what the functions behind the rings ask of each other
 vertex-below : {n m : ℕ} {tails heads : List ℕ} → Ends n m tails → Ends n m heads → (d : ℕ) → d < 2 * m → vertexOf tails heads d < n
 unfolding vertexOf
 vertex-below t h d l = by-bool (isTail d) (λ z. rw z (t .inside (d / 2) (omega arith))) (λ z. rw z (h .inside (d / 2) (omega arith)))
 
-pub readable : (m : ℕ) (tails heads nexts : List ℕ) → Ends 128 m tails → Ends 128 m heads → isPermutation (2 * m) nexts ≡ true
-    → Readable (2 * m) (dartTable (vertexOf tails heads) (2 * m)) nexts
-readable m tails heads nexts t h p =
-    let (fits, perm) = permutation-law (2 * m) nexts .0 p in
+pub readable : (m : ℕ) (tails heads : List ℕ) → Ends 128 m tails → Ends 128 m heads → Readable (2 * m) (dartTable (vertexOf tails heads) (2 * m))
+readable m tails heads t h =
     record {
-      few = fits;
+      few = omega (arith, t .few);
       at-in = λ d l. rw (dart-at (vertexOf tails heads) (2 * m) d l) (vertex-below t h d l);
-      permuted = perm;
     }
-
-module _ (n : ℕ) (tails heads nexts : List ℕ) where
-  pub rings-none : isPermutation n nexts ≡ false → false ≡ ringsOf n tails heads nexts
-  unfolding ringsOf
-  rings-none f = rw f refl
-
-  pub rings-all : isPermutation n nexts ≡ true → allBelow (ringAt n (dartTable (vertexOf tails heads) n) nexts (traced n nexts .orbit)) n ≡ ringsOf n tails heads nexts
-  unfolding ringsOf
-  rings-all t = rw t refl

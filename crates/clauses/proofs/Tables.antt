@@ -7,7 +7,7 @@ use native.Mathlib.Omega.{arith}
 use borrow.Author.Tests.{eq-eqb, ne-eqb}
 use lib.ListN.{getD, set}
 use Rattle.clauses.specs.Darts.{isTail, opposite}
-use Rattle.clauses.specs.Arrays.{dartTable, vertexOf, walkOf}
+use Rattle.clauses.specs.Contracts.{dartTable, vertexOf, walkOf}
 use Rattle.clauses.proofs.Below.{dart-more}
 
 pub two-more : (f : ℕ → ℕ) (k a b : ℕ) → k < 256 → a ≡ f (2 * k) → b ≡ f (2 * k + 1) → set (set (dartTable f (2 * k)) (2 * k) a) (2 * k + 1) b ≡ dartTable f (2 * (k + 1))

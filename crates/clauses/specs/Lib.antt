@@ -1,2 +1,2 @@
 pub mod Darts
-pub mod Arrays
+pub mod Contracts

@@ -1,17 +1,15 @@
 // The clauses of soundness over the arrays of a sheet, each in time linear in them.
 ghost use mathlib.Core.Path.{_≡_};
-ghost use mathlib.Core.Bool.{not, _&&_};
+ghost use mathlib.Core.Bool.{true, false, not, _&&_};
 ghost use Prim.Native.Nat.{ℕ, _*_, _≤_, _<_};
 ghost use lib.Dec.{eqb, ltb};
 ghost use lib.ListN.{getD, length};
 ghost use Rattle.counting.specs.Below.{allBelow, tabulate};
-ghost use Rattle.counting.specs.Orbits.{Perm};
-ghost use Rattle.orbits.specs.Tables.{traced};
-ghost use Rattle.orbits.specs.Meaning.{entries};
-ghost use Rattle.clauses.specs.Arrays.{limitsOf, joinsAt, zeroAt, unusedOf, Ends, dartTable, vertexOf, walkOf, ringAt, Readable, Held, Rounded, numberedAt, ringsOf, endOf, poleAt, polesOf, rootedOf};
+ghost use Rattle.counting.specs.Counts.{count};
+ghost use Rattle.clauses.specs.Contracts.{limitsOf, joinsAt, zeroAt, unusedOf, Ends, dartTable, vertexOf, walkOf, Readable, Held, Degrees, OneRingEach, Round, ringsIn, ringsOf, endOf, poleAt, polesOf, rootedOf};
 use counting::wide;
 
-// Stands for the number of a ring that has none, and for the dart of a vertex that has none.
+// Stands for the dart of a vertex that has none.
 const NONE: u16 = 512;
 
 // Whether the counts of vertices and edges are within limits.
@@ -117,70 +115,73 @@ pub fn walks(m: usize, nexts: &[u16; 512]) -> [u16; 512]
     walk
 }
 
-// A dart of each vertex that has one, and NONE at the others.
-fn some_darts(darts: usize, at: &[u16; 512]) -> [u16; 128]
-    requires { ⌜ (darts ≤ 512) × ((d : ℕ) → d < darts → getD (now at) d 0 < 128) ⌝ }
-    ensures { λ r. ⌜ Held darts (now (at .entry)) r ⌝ }
+// A dart of each vertex that has one, and NONE at the others; and how many each has.
+fn some_darts(darts: usize, at: &[u16; 512], degree: &mut [u16; 128]) -> [u16; 128]
+    requires { ⌜ Readable darts (now at) × Degrees 0 (now at) (now degree) ⌝ }
+    ensures { λ r. ⌜ Held darts (now (at .entry)) r × Degrees darts (now (at .entry)) (now (degree .exit)) ⌝ }
 {
     let mut held = [NONE; 128];
     let mut d = 0;
     while d < darts {
         let v = wide(at[d]);
         held[v] = d as u16;
+        degree[v] += 1;
         d += 1;
     }
     held
 }
 
-// Goes round the ring of dart `start`, and gives each of its darts the number v.
-fn go_round(darts: usize, nexts: &[u16; 512], start: usize, v: u16, ring: &mut [u16; 512])
-    requires { ⌜ (darts ≤ 512) × Perm darts (entries (now nexts)) × (start < darts) × (length (now ring) ≡ 512) ⌝ }
-    ensures { λ _. ⌜ Rounded (entries (now (nexts .entry))) start v (now (ring .entry)) (now (ring .exit)) ⌝ }
+// Whether the ring of dart `start`, of vertex v, has all darts of the vertex, `size` of them, and no others: it is closed after that many
+// steps, and not before.
+fn is_ring(
+    darts: usize,
+    at: &[u16; 512],
+    nexts: &[u16; 512],
+    start: usize,
+    v: u16,
+    size: usize,
+) -> bool
+    requires { ⌜ (darts ≤ 512) × (start < darts) × (getD (now at) start 0 ≡ v) × (size ≡ count (λ d. eqb (getD (now at) d 0) v) darts) ⌝ }
+    ensures { λ r. ⌜ (r ≡ true → Round darts (now (at .entry)) (now (nexts .entry)) start v size) × (r ≡ false → OneRingEach darts (now (at .entry)) (now (nexts .entry)) → ⊥) ⌝ }
 {
+    let last = size - 1;
     let mut d = start;
     let mut steps = 0;
-    while steps < darts {
-        ring[d] = v;
+    while steps < last {
         d = wide(nexts[d]);
-        steps += 1;
-        if d == start {
-            return;
-        }
-    }
-}
-
-// Whether each dart has its vertex for the number of its ring.
-fn numbered(darts: usize, at: &[u16; 512], ring: &[u16; 512]) -> bool
-    requires { ⌜ darts ≤ 512 ⌝ }
-    ensures { λ r. ⌜ r ≡ allBelow (numberedAt (now (at .entry)) (now (ring .entry))) darts ⌝ }
-{
-    let mut d = 0;
-    while d < darts {
-        if at[d] != ring[d] {
+        if darts <= d {
             return false;
         }
-        d += 1;
+        if at[d] != v {
+            return false;
+        }
+        if d == start {
+            return false;
+        }
+        steps += 1;
     }
-    true
+    wide(nexts[d]) == start
 }
 
-// Whether each dart's next dart is at the same vertex, and all darts of a vertex are in one ring: the ring of one dart of each vertex gets
-// the vertex for its number, and then every dart must have its own vertex's.
+// Whether each dart's next dart is at the same vertex, and all darts of a vertex are in one ring: the ring of one dart of each vertex has
+// all darts of the vertex and no others.
 fn one_ring_each(darts: usize, at: &[u16; 512], nexts: &[u16; 512]) -> bool
-    requires { ⌜ Readable darts (now at) (now nexts) ⌝ }
-    ensures { λ r. ⌜ r ≡ allBelow (ringAt darts (now (at .entry)) (now (nexts .entry)) (traced darts (now (nexts .entry)) .orbit)) darts ⌝ }
+    requires { ⌜ Readable darts (now at) ⌝ }
+    ensures { λ r. ⌜ r ≡ ringsIn darts (now (at .entry)) (now (nexts .entry)) ⌝ }
 {
-    let held = some_darts(darts, at);
-    let mut ring = [NONE; 512];
+    let mut degree = [0u16; 128];
+    let held = some_darts(darts, at, &mut degree);
     let mut v = 0;
     while v < 128 {
         let start = wide(held[v]);
         if start < darts {
-            go_round(darts, nexts, start, v as u16, &mut ring);
+            if !is_ring(darts, at, nexts, start, v as u16, wide(degree[v])) {
+                return false;
+            }
         }
         v += 1;
     }
-    numbered(darts, at, &ring)
+    true
 }
 
 // Whether the next-darts of each vertex form one ring of exactly its darts.
@@ -188,12 +189,8 @@ pub fn in_rings(m: usize, tails: &[u16; 256], heads: &[u16; 256], nexts: &[u16; 
     requires { ⌜ Ends 128 m (now tails) × Ends 128 m (now heads) ⌝ }
     ensures { λ r. ⌜ r ≡ ringsOf (2 * m) (now (tails .entry)) (now (heads .entry)) (now (nexts .entry)) ⌝ }
 {
-    let darts = 2 * m;
-    if !orbits::permutes(darts, nexts) {
-        return false;
-    }
     let at = places(m, tails, heads);
-    one_ring_each(darts, &at, nexts)
+    one_ring_each(2 * m, &at, nexts)
 }
 
 // Marks each vertex that is among the first m ends.

@@ -6,8 +6,11 @@ use Prim.Native.Nat.{ℕ, zero, suc, _+_, _≤_, _<_, zero-le}
 use native.Mathlib.Nat.{le-of-eq}
 use native.Mathlib.Decide.{ℕ-discrete, decLt}
 use native.Mathlib.Omega.{arith}
-use lib.Dec.{T, eqb, eqb→eq, eqb-refl}
+use lib.Dec.{T, eqb, ltb, eqb→eq, eqb-refl}
+use borrow.Author.Tests.{eq-eqb, ne-eqb, lt-ltb, le-ltb}
 use Rattle.counting.specs.Counts.{bit, count}
+use Rattle.counting.proofs.Pigeonhole.{Found, find, pigeonhole}
+use Rattle.counting.proofs.Pigeonhole.Found.{at, nowhere}
 
 -- ---- a test and what it says
 
@@ -85,6 +88,22 @@ unfolding count
 count-all zero = refl
 count-all (suc n) = let ih = count-all n in omega arith
 
+-- a test that is passed where one of two is, and no number passes both
+pub count-two : (p q r : ℕ → Bool) → ((d : ℕ) → bit (p d) + bit (q d) ≡ bit (r d)) → (n : ℕ) → count p n + count q n ≡ count r n
+unfolding count
+count-two p q r h zero = refl
+count-two p q r h (suc n) = omega (arith, count-two p q r h n, h n)
+
+-- the numbers with a value below k, and those with the value k
+pub count-below : (f : ℕ → ℕ) (k n : ℕ) → count (λ d. ltb (f d) k) n + count (λ d. eqb (f d) k) n ≡ count (λ d. ltb (f d) (suc k)) n
+count-below f k = count-two (λ d. ltb (f d) k) (λ d. eqb (f d) k) (λ d. ltb (f d) (suc k)) (λ d. one-more (f d))
+  where
+    one-more : (x : ℕ) → bit (ltb x k) + bit (eqb x k) ≡ bit (ltb x (suc k))
+    one-more x =
+        by-cases (decLt x k) (λ h. rw (lt-ltb x k h, ne-eqb x k (omega arith), lt-ltb x (suc k) (omega arith)) refl)
+        (λ h. by-cases (ℕ-discrete x k) (λ e. rw (le-ltb x k (omega arith), eq-eqb x k e, lt-ltb x (suc k) (omega arith)) refl)
+        (λ e. rw (le-ltb x k (omega arith), ne-eqb x k e, le-ltb x (suc k) (omega arith)) refl))
+
 -- four tests of which each number passes one: their counts add up to n
 pub count-four : (p q r s : ℕ → Bool) → ((d : ℕ) → bit (p d) + bit (q d) + bit (r d) + bit (s d) ≡ 1)
     → (n : ℕ) → count p n + count q n + count r n + count s n ≡ n
@@ -138,6 +157,27 @@ module _ (p : ℕ → Bool) where
       go false e l rest = let t = rest (omega arith) in (t .0, omega (arith, t .1), t .2, t .3)
 
 -- ---- the pigeonhole principle
+
+-- n different numbers below N that pass p
+module _ (p : ℕ → Bool) (N n : ℕ) (f : ℕ → ℕ) (inside : (i : ℕ) → i < n → (f i < N) × (p (f i) ≡ true)) (one-one : (i j : ℕ) → i < n → j < n → f i ≡ f j → i ≡ j) where
+  -- n is at most their count
+  pub count-room : n ≤ count p N
+  count-room =
+      pigeonhole n (count p N) (λ i k. count p (f i) ≡ k) (λ i l. (count p (f i), count-lt p (f i) N (inside i l .0) (inside i l .1), refl))
+      (λ i j k l m a b. one-one i j l m (count-one-one p (f i) (f j) (inside i l .1) (inside j m .1) (a ∙ sym b)))
+
+-- and where it is their count, each number that passes is among them
+pub room-onto : (p : ℕ → Bool) (N n : ℕ) (f : ℕ → ℕ) → ((i : ℕ) → i < n → (f i < N) × (p (f i) ≡ true)) → ((i j : ℕ) → i < n → j < n → f i ≡ f j → i ≡ j)
+    → count p N ≤ n → (d : ℕ) → d < N → p d ≡ true → (i : ℕ) × (i < n) × (f i ≡ d)
+room-onto p N n f inside one-one full d l t = go (find (λ i. f i ≡ d) (λ i. ℕ-discrete (f i) d) n)
+  where
+    go : Found (λ i. f i ≡ d) n → (i : ℕ) × (i < n) × (f i ≡ d)
+    go (at i b q m) = (i, b, q)
+    go (nowhere g) = absurd (omega (
+      arith,
+      count-room (without p d) N n f (λ i b. (inside i b .0, without-other p (g i b) ∙ inside i b .1)) one-one,
+      count-without p N d l t,
+    ))
 
 -- each v < n that passes q is g d for some d < N that passes p
 abbrev pub Onto : (ℕ → ℕ) → (ℕ → Bool) → ℕ → (ℕ → Bool) → ℕ → Type 0

@@ -1,6 +1,6 @@
 -- Cases on a Bool, laws of `iter`, the place where a test on the way changes, and a bound on finitely many values. Assumes nothing.
 use mathlib.Core.Path.{_≡_, refl, sym, ap, _∙_}
-use mathlib.Core.Logic.{_≢_, _⊎_, inl, inr}
+use mathlib.Core.Logic.{_≢_, _⊎_, inl, inr, by-cases}
 use mathlib.Core.Bool.{Bool, true, false, not, true≢false, false≢true}
 use Prim.Native.Nat.{ℕ, zero, suc, _+_, _*_, _≤_, _<_}
 use native.Mathlib.Nat.{le-refl, zero-add, suc-add, zero-mul, suc-mul}
@@ -52,6 +52,12 @@ iter-add φ (suc i) j d = ap (λ x. iter φ x d) (suc-add i j) ∙ ap φ (iter-a
 pub iter-keeps : (φ : ℕ → ℕ) (Good : ℕ → Type 0) → ((x : ℕ) → Good x → Good (φ x)) → (i d : ℕ) → Good d → Good (iter φ i d)
 iter-keeps φ Good keep zero d g = g
 iter-keeps φ Good keep (suc i) d g = keep (iter φ i d) (iter-keeps φ Good keep i d g)
+
+-- where r steps lead back to s, fewer than r steps lead to all that is reached from it
+pub around : (φ : ℕ → ℕ) (s r : ℕ) → 0 < r → iter φ r s ≡ s → (k : ℕ) → (j : ℕ) × (j < r) × (iter φ j s ≡ iter φ k s)
+around φ s r h back zero = (zero, h, refl)
+around φ s r h back (suc k) = let (j, l, q) = around φ s r h back k in
+    by-cases (ℕ-discrete (suc j) r) (λ e. (zero, h, sym back ∙ ap (λ x. iter φ x s) (sym e) ∙ ap φ q)) (λ e. (suc j, omega arith, ap φ q))
 
 -- the multiples of a period
 pub iter-period : (φ : ℕ → ℕ) (p d : ℕ) → iter φ p d ≡ d → (k : ℕ) → iter φ (k * p) d ≡ d

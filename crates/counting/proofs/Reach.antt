@@ -6,7 +6,7 @@ use native.Mathlib.Decide.{ℕ-discrete, decLt}
 use native.Mathlib.Omega.{arith}
 use Rattle.counting.specs.Orbits.{Perm, iter, Reach}
 use Rattle.counting.proofs.Pigeonhole.{Apart, pigeonhole, Found, at, nowhere, find}
-use Rattle.counting.proofs.Iterate.{iter-shift}
+use Rattle.counting.proofs.Iterate.{iter-shift, around}
 
 pub reach-refl : {φ : ℕ → ℕ} (d : ℕ) → Reach φ d d
 reach-refl d = (zero, refl)
@@ -26,12 +26,17 @@ module _ {N : ℕ} {φ : ℕ → ℕ} (P : Perm N φ) where
   pub reach-below : {d e : ℕ} → d < N → Reach φ d e → e < N
   reach-below {d} h (i, q) = subst (λ x. x < N) q (iter-below i d h)
 
-  -- iterates of d at different places differ, if d does not return within N steps
-  distinct : (d : ℕ) → d < N → ((j : ℕ) → j < N → iter φ (suc j) d ≢ d) → (i j : ℕ) → i < j → j ≤ N → iter φ i d ≢ iter φ j d
-  distinct d h no-return i zero l m e = omega arith
-  distinct d h no-return zero (suc j) l m e = no-return j (omega arith) (sym e)
-  distinct d h no-return (suc i) (suc j) l m e =
-      distinct d h no-return i j (omega arith) (omega arith) (P .one-one (iter φ i d) (iter φ j d) (iter-below i d h) (iter-below j d h) e)
+  -- iterates of d at different places differ, if d does not return within n steps
+  distinct : (n d : ℕ) → d < N → ((j : ℕ) → j < n → iter φ (suc j) d ≢ d) → (i j : ℕ) → i < j → j ≤ n → iter φ i d ≢ iter φ j d
+  distinct n d h no-return i zero l m e = omega arith
+  distinct n d h no-return zero (suc j) l m e = no-return j (omega arith) (sym e)
+  distinct n d h no-return (suc i) (suc j) l m e =
+      distinct n d h no-return i j (omega arith) (omega arith) (P .one-one (iter φ i d) (iter φ j d) (iter-below i d h) (iter-below j d h) e)
+
+  pub iter-one-one : (n d : ℕ) → d < N → ((j : ℕ) → j < n → iter φ (suc j) d ≢ d) → (i j : ℕ) → i ≤ n → j ≤ n → iter φ i d ≡ iter φ j d → i ≡ j
+  iter-one-one n d h no-return i j l m e =
+      by-cases (decLt i j) (λ s. absurd (distinct n d h no-return i j s m e))
+      (λ s. by-cases (decLt j i) (λ t. absurd (distinct n d h no-return j i t l (sym e))) (λ t. omega arith))
 
   -- every orbit returns: after suc i steps, i below N
   pub returns : (d : ℕ) → d < N → (i : ℕ) × (i < N) × (iter φ (suc i) d ≡ d)
@@ -42,8 +47,7 @@ module _ {N : ℕ} {φ : ℕ → ℕ} (P : Perm N φ) where
       go (nowhere f) = absurd (let z : suc N ≤ N = pigeonhole (suc N) N (λ i k. iter φ i d ≡ k) (λ i l. (iter φ i d, iter-below i d h, refl)) apart in omega arith)
         where
           apart : Apart (λ i k. iter φ i d ≡ k) (suc N)
-          apart i i′ k l l′ a b = by-cases (decLt i i′) (λ s. absurd (distinct d h f i i′ s (omega arith) (a ∙ sym b)))
-              (λ s. by-cases (decLt i′ i) (λ t. absurd (distinct d h f i′ i t (omega arith) (b ∙ sym a))) (λ t. omega arith))
+          apart i i′ k l l′ a b = iter-one-one N d h f i i′ (omega arith) (omega arith) (a ∙ sym b)
 
   -- each d has one before it
   pub before : (d : ℕ) → d < N → (p : ℕ) × (p < N) × (φ p ≡ d)
@@ -62,16 +66,9 @@ module _ {N : ℕ} {φ : ℕ → ℕ} (P : Perm N φ) where
 
   -- what is reached is reached in fewer than N steps
   pub reach-soon : {d e : ℕ} → d < N → Reach φ d e → (i : ℕ) × (i < N) × (iter φ i d ≡ e)
-  reach-soon {d} {e} h (i, q) = let t = go i in (t .0, omega (arith, t .1, r .1), t .2 ∙ q)
-    where
-      r : (i : ℕ) × (i < N) × (iter φ (suc i) d ≡ d)
-      r = returns d h
-
-      go : (i : ℕ) → (k : ℕ) × (k ≤ r .0) × (iter φ k d ≡ iter φ i d)
-      go zero = (zero, omega arith, refl)
-      go (suc i) = let t = go i in by-cases (ℕ-discrete (t .0) (r .0))
-          (λ e. (zero, omega arith, sym (r .2) ∙ ap (λ x. φ (iter φ x d)) (sym e) ∙ ap φ (t .2)))
-          (λ e. (suc (t .0), omega (arith, t .1), ap φ (t .2)))
+  reach-soon {d} h (i, q) = let (r, l, back) = returns d h in
+      let (j, b, w) = around φ d (suc r) (omega arith) back i in
+      (j, omega arith, w ∙ q)
 
   pub reach-dec : (d e : ℕ) → d < N → Dec (Reach φ d e)
   reach-dec d e h = go (find (λ i. iter φ i d ≡ e) (λ i. ℕ-discrete (iter φ i d) e) N)

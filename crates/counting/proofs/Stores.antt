@@ -1,9 +1,9 @@
 -- What stands in an array, and after a store. Assumes nothing.
 use Prim.Native.Nat.{ℕ, _<_}
 use mathlib.Core.Path.{_≡_, sym, _∙_}
-use mathlib.Core.List.{List, map}
+use mathlib.Core.List.{List}
 use native.Mathlib.Decide.{ℕ-discrete}
-use lib.ListN.{getD, set, length, length-map}
+use lib.ListN.{getD, set, length}
 use lib.Seq.{getD-set-same, getD-set-other}
 
 pub data Stored {A : Type 0} (l : List A) (i : ℕ) (x : A) (j : ℕ) (z : A) : Type 0 where
@@ -16,7 +16,3 @@ stored l i x j z h = go (ℕ-discrete j i)
     go : Dec (j ≡ i) → Stored l i x j z
     go (yes e) = here e (rw e (getD-set-same l i x z h))
     go (no n) = apart n (getD-set-other l i j x z n)
-
--- an array has the length of its type
-pub unmapped : {n : ℕ} (l : List ℕ) → length (map (λ v. v) l) ≡ n → length l ≡ n
-unmapped l e = sym (length-map l (λ v. v)) ∙ e

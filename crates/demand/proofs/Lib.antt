@@ -1,1 +1,3 @@
+pub mod Refusals
+pub mod Once
 pub mod Demand

@@ -7,21 +7,21 @@ use native.Mathlib.Decide.{ℕ-discrete}
 use native.Mathlib.Omega.{arith}
 use lib.ListN.{getD, set, length-set, replicate, getD-replicate}
 use lib.Seq.{getD-set-same, getD-set-other}
-use Rattle.digraph.specs.Chains.{Listed, Chained}
-use Rattle.digraph.specs.Chains.Listed.{head, later}
+use Rattle.digraph.specs.Contracts.{Listed, Chained}
+use Rattle.digraph.specs.Contracts.Listed.{at-head, later}
 
 module _ {edges : ℕ} {after : List ℕ} where
   pub listed-in : {j k : ℕ} → Listed edges after j k → j < edges
-  listed-in (head h) = h
+  listed-in (at-head h) = h
   listed-in (later h e l) = listed-in l
 
   pub list-in : {j k : ℕ} → Listed edges after j k → k < edges
-  list-in (head h) = h
+  list-in (at-head h) = h
   list-in (later h e l) = h
 
   -- an edge of a list is its first one, or on the rest
   pub split : {j k i : ℕ} → Listed edges after j k → getD after k 0 ≡ i → (j ≡ k) ⊎ Listed edges after j i
-  split (head h) q = inl refl
+  split (at-head h) q = inl refl
   split (later h e l) q = inr (rw (sym q ∙ e) l)
 
 -- before the first edge
@@ -38,7 +38,7 @@ unchained edges ends few = record {
 -- lists above k are the same where the tables agree above k
 module _ {edges k : ℕ} {x y : List ℕ} (agree : (i : ℕ) → k < i → getD x i 0 ≡ getD y i 0) (rising : (i : ℕ) → k < i → i < edges → i < getD x i 0) where
   same-list : {j i : ℕ} → k < i → Listed edges x j i → Listed edges y j i
-  same-list b (head h) = head h
+  same-list b (at-head h) = at-head h
   same-list b (later {k = m} h e l) = later h (sym (agree m b) ∙ e) (same-list (omega (arith, rising m b h)) l)
 
 -- one edge more, k, at v
@@ -76,7 +76,7 @@ module _ {edges k : ℕ} {ends first after : List ℕ} (C : Chained (suc k) edge
   chained-more inside = record {
     size-first = length-set first v k ∙ C .size-first;
     size-after = length-set after k (getD first v 0) ∙ C .size-after;
-    listed = λ j l b. by-cases (ℕ-discrete j k) (λ e. rw e (on-v (head in-k) (getD ends k 0) (sym ev))) (λ n. old j (omega arith) b);
+    listed = λ j l b. by-cases (ℕ-discrete j k) (λ e. rw e (on-v (at-head in-k) (getD ends k 0) (sym ev))) (λ n. old j (omega arith) b);
     at-end = λ w j b l. by-cases (ℕ-discrete w v) (λ e. from-v w j e (rw e at l)) (λ n. C .at-end w j b (new-old (C .high w b) (rw (off-first w n) at l)));
     rising = λ i l b. by-cases (ℕ-discrete i k) (λ e. rw (e, at-after) (C .high v in-v)) (λ n. omega (arith, off-after i (omega arith), C .rising i (omega arith) b));
     high = λ w b. by-cases (ℕ-discrete w v) (λ e. rw (e, at-first) (omega arith)) (λ n. omega (arith, off-first w n, C .high w b));

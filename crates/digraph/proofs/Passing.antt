@@ -14,10 +14,10 @@ use Rattle.counting.proofs.Counts.{without, without-same, without-other, count-
 use Rattle.counting.proofs.Stores.{Stored, stored}
 use Rattle.counting.proofs.Stores.Stored.{here as same, apart as other}
 use Rattle.digraph.specs.Relaxed.{higherOf, raised}
-use Rattle.digraph.specs.Chains.{Listed}
-use Rattle.digraph.specs.Chains.Listed.{head as at-head, later}
-use Rattle.digraph.specs.Passes.{Queued, Listing, Progress, Settled}
-use Rattle.digraph.proofs.Relaxation.{raised-kept, raised-above, raised-sound}
+use Rattle.digraph.specs.Contracts.{Listed}
+use Rattle.digraph.specs.Contracts.Listed.{at-head, later}
+use Rattle.digraph.specs.Contracts.{Queued, Listing, Progress, Settled}
+use Rattle.digraph.proofs.Relaxation.{raised-kept, raised-above, raised-attained}
 use Rattle.digraph.proofs.Chaining.{listed-in, list-in, split}
 use Rattle.digraph.proofs.Waits.{some, waiting-less, once, room, queue-passed}
 
@@ -52,7 +52,7 @@ module _ {edges : ℕ} {to first after : List ℕ} (G : Listing edges to first a
     waiting′ = set waiting w (getD waiting w 0 - 1)
 
     size-level : w < length level
-    size-level = omega (arith, below-w, P .sound .size)
+    size-level = omega (arith, below-w, P .attained .size)
 
     -- a node for which no edge waits keeps its level
     pub keeps : (u : ℕ) → getD waiting u 0 ≡ 0 → getD level′ u 0 ≡ getD level u 0
@@ -83,7 +83,7 @@ module _ {edges : ℕ} {to first after : List ℕ} (G : Listing edges to first a
     pass-edge Q = record {
       waiting-in = waiting-less edges to waits k in-k unpassed (P .waiting-in) w ew below-w;
       queued = Q;
-      sound = rw (ev, ← ew) at (raised-sound (G .within) level k in-k (P .sound));
+      attained = rw (ev, ← ew) at (raised-attained (G .within) level k in-k (P .attained));
       climbs = climb;
       low = low;
     }

@@ -14,7 +14,7 @@ use Rattle.counting.proofs.Paths.{append, circle}
 use Rattle.digraph.specs.declared.Layering.{Layering}
 use Rattle.digraph.specs.Digraph.{Leads, Within, Leveled, flat}
 use Rattle.digraph.specs.Relaxed.{higherOf, raised, relaxed, rounds, climbs, answer, withinOf, levelsOf, Levels-Mean}
-use Rattle.digraph.specs.Passes.{Sound}
+use Rattle.digraph.specs.Contracts.{Attained}
 use Rattle.counting.proofs.Stores.{Stored, stored}
 use Rattle.counting.proofs.Stores.Stored.{here as same, apart as other}
 use Rattle.digraph.proofs.Tests.{within-is, within-true, Climbs, climbs-all, climbs-not}
@@ -52,15 +52,15 @@ module _ (level : List ℕ) (u v : ℕ) (h : v < length level) where
 -- ---- rounds
 
 module _ {nodes edges : ℕ} {from to : List ℕ} (W : Within nodes edges from to) where
-  pub flat-sound : Sound nodes edges from to flat
-  flat-sound = record { size = flat-size; path = λ v. (v, rw (flat-at v) here); rest = λ v _. flat-at v }
+  pub flat-attained : Attained nodes edges from to flat
+  flat-attained = record { size = flat-size; path = λ v. (v, rw (flat-at v) here); rest = λ v _. flat-at v }
 
-  target-in : (level : List ℕ) → Sound nodes edges from to level → (k : ℕ) → k < edges → getD to k 0 < length level
+  target-in : (level : List ℕ) → Attained nodes edges from to level → (k : ℕ) → k < edges → getD to k 0 < length level
   target-in level s k l = omega (arith, s .size, W .few-nodes, W .to-in k l)
 
-  pub raised-sound : (level : List ℕ) (k : ℕ) → k < edges → Sound nodes edges from to level → Sound nodes edges from to (raised level (getD from k 0) (getD to k 0))
+  pub raised-attained : (level : List ℕ) (k : ℕ) → k < edges → Attained nodes edges from to level → Attained nodes edges from to (raised level (getD from k 0) (getD to k 0))
   unfolding raised
-  raised-sound level k l s = record {
+  raised-attained level k l s = record {
     size = length-set level (getD to k 0) _ ∙ s .size;
     path = λ v. reach v (view v);
     rest = λ v h. past v h (view v);
@@ -88,11 +88,11 @@ module _ {nodes edges : ℕ} {from to : List ℕ} (W : Within nodes edges from t
       past v h (other n q) = q ∙ s .rest v h
 
   -- the first k edges in one round
-  module _ (level : List ℕ) (S : Sound nodes edges from to level) where
-    relaxed-sound : (k : ℕ) → k ≤ edges → Sound nodes edges from to (relaxed k from to level)
+  module _ (level : List ℕ) (S : Attained nodes edges from to level) where
+    relaxed-attained : (k : ℕ) → k ≤ edges → Attained nodes edges from to (relaxed k from to level)
     unfolding relaxed
-    relaxed-sound zero l = S
-    relaxed-sound (suc k) l = raised-sound (relaxed k from to level) k (omega arith) (relaxed-sound k (omega arith))
+    relaxed-attained zero l = S
+    relaxed-attained (suc k) l = raised-attained (relaxed k from to level) k (omega arith) (relaxed-attained k (omega arith))
 
     relaxed-kept : (k : ℕ) → k ≤ edges → (v : ℕ) → getD level v 0 ≤ getD (relaxed k from to level) v 0
     unfolding relaxed
@@ -101,7 +101,7 @@ module _ {nodes edges : ℕ} {from to : List ℕ} (W : Within nodes edges from t
         omega (
           arith,
           relaxed-kept k (omega arith) v,
-          raised-kept (relaxed k from to level) (getD from k 0) (getD to k 0) (target-in _ (relaxed-sound k (omega arith)) k (omega arith)) v,
+          raised-kept (relaxed k from to level) (getD from k 0) (getD to k 0) (target-in _ (relaxed-attained k (omega arith)) k (omega arith)) v,
         )
 
     relaxed-above : (k : ℕ) → k ≤ edges → (j : ℕ) → j < k → getD level (getD from j 0) 0 < getD (relaxed k from to level) (getD to j 0) 0
@@ -110,17 +110,17 @@ module _ {nodes edges : ℕ} {from to : List ℕ} (W : Within nodes edges from t
     relaxed-above (suc k) l j b = go (ℕ-discrete j k) (relaxed-above k (omega arith) j)
       where
         fine : getD to k 0 < length (relaxed k from to level)
-        fine = target-in _ (relaxed-sound k (omega arith)) k (omega arith)
+        fine = target-in _ (relaxed-attained k (omega arith)) k (omega arith)
 
         go : Dec (j ≡ k) → (j < k → getD level (getD from j 0) 0 < getD (relaxed k from to level) (getD to j 0) 0)
             → getD level (getD from j 0) 0 < getD (raised (relaxed k from to level) (getD from k 0) (getD to k 0)) (getD to j 0) 0
         go (yes e) _ = rw e (omega (arith, relaxed-kept k (omega arith) (getD from k 0), raised-above (relaxed k from to level) (getD from k 0) (getD to k 0) fine))
         go (no n) ih = omega (arith, ih (omega arith), raised-kept (relaxed k from to level) (getD from k 0) (getD to k 0) fine (getD to j 0))
 
-  rounds-sound : (i : ℕ) → Sound nodes edges from to (rounds i edges from to)
+  rounds-attained : (i : ℕ) → Attained nodes edges from to (rounds i edges from to)
   unfolding rounds
-  rounds-sound zero = flat-sound
-  rounds-sound (suc i) = relaxed-sound (rounds i edges from to) (rounds-sound i) edges (omega arith)
+  rounds-attained zero = flat-attained
+  rounds-attained (suc i) = relaxed-attained (rounds i edges from to) (rounds-attained i) edges (omega arith)
 
   -- after i rounds no path of at most i edges is longer than its end's level
   rounds-upto : (i : ℕ) {a v k : ℕ} → k ≤ i → Path (Leads edges from to) a v k → k ≤ getD (rounds i edges from to) v 0
@@ -129,10 +129,10 @@ module _ {nodes edges : ℕ} {from to : List ℕ} (W : Within nodes edges from t
   rounds-upto zero l (more p s) = absurd (omega arith)
   rounds-upto (suc i) l (more p s) =
       let ih = rounds-upto i (omega arith) p in
-      omega (arith, rw (s .source, s .target) at (relaxed-above (rounds i edges from to) (rounds-sound i) edges (omega arith) (s .edge) (s .inside)))
+      omega (arith, rw (s .source, s .target) at (relaxed-above (rounds i edges from to) (rounds-attained i) edges (omega arith) (s .edge) (s .inside)))
 
   -- where every edge climbs, no path is longer than its end's level
-  module _ {level : List ℕ} (S : Sound nodes edges from to level) (climb : (j : ℕ) → j < edges → Climbs from to level j) where
+  module _ {level : List ℕ} (S : Attained nodes edges from to level) (climb : (j : ℕ) → j < edges → Climbs from to level j) where
     climbed : {a v k : ℕ} → Path (Leads edges from to) a v k → k ≤ getD level v 0
     climbed here = omega arith
     climbed (more p s) = let ih = climbed p in omega (arith, rw (s .source, s .target) at (climb (s .edge) (s .inside)))
@@ -163,7 +163,7 @@ module _ {nodes edges : ℕ} {from to : List ℕ} (W : Within nodes edges from t
   -- an edge that does not climb ends a path of as many edges as nodes
   unsettled : (j : ℕ) → j < edges → getD final (getD to j 0) 0 ≤ getD final (getD from j 0) 0 → Circle (Leads edges from to)
   unsettled j l h =
-      let (a, p) = rounds-sound nodes .path (getD from j 0) in
+      let (a, p) = rounds-attained nodes .path (getD from j 0) in
       let q : Path (Leads edges from to) a (getD to j 0) (suc (getD final (getD from j 0) 0)) = more p (record { edge = j; inside = l; source = refl; target = refl }) in
       by-cases (decLt (getD final (getD from j 0) 0) nodes)
       (λ b. absurd (omega (arith, rounds-upto nodes b q)))
@@ -171,7 +171,7 @@ module _ {nodes edges : ℕ} {from to : List ℕ} (W : Within nodes edges from t
 
   leveled : (b : Bool) → climbs edges from to final ≡ b → Leveled nodes edges from to (answer b final .acyclic) (answer b final .level)
   unfolding answer
-  leveled true t = climbs-leveled (rounds-sound nodes) (climbs-all from to final edges t)
+  leveled true t = climbs-leveled (rounds-attained nodes) (climbs-all from to final edges t)
   leveled false f = let (j, l, h) = climbs-not from to final edges f in circle-leveled (unsettled j l h)
 
 pub levels-mean : Levels-Mean

@@ -13,8 +13,8 @@ use Rattle.counting.specs.Paths.Path.{here}
 use Rattle.counting.proofs.Counts.{count-all, count-onto, count-full, count-gap}
 use Rattle.counting.proofs.Paths.{before, circle}
 use Rattle.digraph.specs.Digraph.{Leads, Leveled, flat}
-use Rattle.digraph.specs.Passes.{into, ready, Waiting, Queued, Listing, Settled}
-use Rattle.digraph.proofs.Relaxation.{flat-at, flat-sound, source-in, climbs-leveled, circle-leveled}
+use Rattle.digraph.specs.Contracts.{into, ready, Waiting, Queued, Listing, Settled}
+use Rattle.digraph.proofs.Relaxation.{flat-at, flat-attained, source-in, climbs-leveled, circle-leveled}
 
 module _ {edges : ℕ} {to first after : List ℕ} (G : Listing edges to first after) where
   -- before the first edge
@@ -24,7 +24,7 @@ module _ {edges : ℕ} {to first after : List ℕ} (G : Listing edges to first a
     progress = record {
       waiting-in = A;
       queued = Q;
-      sound = flat-sound (G .within);
+      attained = flat-attained (G .within);
       climbs = λ j l f. absurd (true≢false f);
       low = λ v. omega (arith, flat-at v, count-all edges);
     };
@@ -42,7 +42,7 @@ module _ {edges : ℕ} {to first after : List ℕ} (G : Listing edges to first a
         (λ n. omega arith)
 
     pub acyclic : G .nodes ≤ tail → Leveled (G .nodes) edges (G .from) to true level
-    acyclic h = climbs-leveled (G .within) (S .progress .sound) (λ j l. S .progress .climbs j l (passes j l (S .waits j) refl))
+    acyclic h = climbs-leveled (G .within) (S .progress .attained) (λ j l. S .progress .climbs j l (passes j l (S .waits j) refl))
       where
         passes : (j : ℕ) → j < edges → (b : Bool) → S .waits j ≡ b → b ≡ false
         passes j l false e = refl

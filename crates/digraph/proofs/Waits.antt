@@ -17,7 +17,7 @@ use Rattle.counting.proofs.Counts.{without, without-same, without-other, count-
 use Rattle.counting.proofs.Stores.{Stored, stored}
 use Rattle.counting.proofs.Stores.Stored.{here as same, apart as other}
 use Rattle.digraph.specs.Digraph.{flat}
-use Rattle.digraph.specs.Passes.{into, Waiting, ready, Queued}
+use Rattle.digraph.specs.Contracts.{into, Waiting, ready, Queued}
 use Rattle.digraph.proofs.Relaxation.{flat-size, flat-at}
 
 -- ---- the counts

@@ -1,4 +1,3 @@
 pub mod Digraph
 pub mod Relaxed
-pub mod Chains
-pub mod Passes
+pub mod Contracts

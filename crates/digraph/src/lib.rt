@@ -4,8 +4,8 @@ ghost use mathlib.Core.Bool.{true};
 ghost use Prim.Native.Nat.{ℕ, _+_, _≤_, _<_};
 ghost use lib.ListN.{getD, length};
 ghost use Rattle.digraph.specs.Relaxed.{withinOf, higherOf, levelsOf};
-ghost use Rattle.digraph.specs.Chains.{Chained};
-ghost use Rattle.digraph.specs.Passes.{Waiting, Queued, Underway, Onward};
+ghost use Rattle.digraph.specs.Contracts.{Chained};
+ghost use Rattle.digraph.specs.Contracts.{Waiting, Queued, Underway, Onward};
 use counting::bit;
 use counting::wide;
 

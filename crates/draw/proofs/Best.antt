@@ -9,7 +9,7 @@ use native.Mathlib.Omega.{arith}
 use Rattle.counting.specs.Below.{listBelow}
 use Rattle.counting.proofs.Iterate.{by-bool}
 use Rattle.drawing.proofs.Extremes.{Extreme, best-is, best-bounds}
-use Rattle.draw.specs.Tables.{bestBelow}
+use Rattle.draw.specs.Contracts.{bestBelow}
 
 -- `better` is the one of two that stands to both as R says
 pub record Better (R : ℕ → ℕ → Type 0) (better : ℕ → ℕ → ℕ) : Type 0 where

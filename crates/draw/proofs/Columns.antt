@@ -9,13 +9,13 @@ use borrow.Author.Tests.{ne-eqb}
 use Rattle.digraph.specs.Relaxed.{levelsOf}
 use Rattle.sheet.specs.declared.Sheet.{Sheet}
 use Rattle.clauses.specs.Darts.{tailDart}
-use Rattle.clauses.specs.Arrays.{Ends}
+use Rattle.clauses.specs.Contracts.{Ends}
 use Rattle.sheet.specs.Sound.{Sound}
 use Rattle.sheet.specs.Check.{faceTable, face, faceCount, faceFrom, faceTo, edgeTable, columnLevels}
 use Rattle.soundness.proofs.Plane.{plane-of}
 use Rattle.soundness.proofs.Columns.{column-law}
 use Rattle.drawing.specs.Draw.{edgeColumn}
-use Rattle.draw.specs.Tables.{table, sideFace, sides, faceColumns, columnBeside, edgeColumns}
+use Rattle.draw.specs.Contracts.{table, sideFace, sides, faceColumns, columnBeside, edgeColumns}
 use Rattle.draw.proofs.Filling.{table-at, table-agree, table-put}
 
 -- the columns of the edges, from the left and the right face of each
@@ -50,7 +50,7 @@ module _ {s : Sheet} (S : Sound s) where
   to-other k n = rw (ne-eqb k 0 n) refl
 
   some : 0 < s .edges
-  some = omega (arith, S .edges-least)
+  some = omega (arith, S .limits .edges-least)
 
   -- the entry of one side's table at edge k
   side-at : (side k : ℕ) → k < s .edges → getD (sides (s .edges) side faces) k 0 ≡ sideFace side faces k
@@ -84,11 +84,11 @@ module _ {s : Sheet} (S : Sound s) where
   left-below k h = column-law S .faces .inside (tailDart k) (omega arith)
 
   few-faces : faceCount s ≤ 256
-  few-faces = omega (arith, S .edges-most, S .vertices-least, plane-of S .euler)
+  few-faces = omega (arith, S .limits .edges-most, S .limits .vertices-least, plane-of S .euler)
 
   pub left-in : Ends 256 (s .edges) (sides (s .edges) 0 (faceTable s .orbit))
   unfolding faces
-  left-in = record { few = S .edges-most; inside = λ k h. omega (arith, side-at 0 k h, left-of k, left-below k h, few-faces) }
+  left-in = record { few = S .limits .edges-most; inside = λ k h. omega (arith, side-at 0 k h, left-of k, left-below k h, few-faces) }
 
   pub column-small : (k : ℕ) → k < s .edges → edgeColumn s k < 256
   unfolding edgeColumn

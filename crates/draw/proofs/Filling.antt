@@ -11,7 +11,7 @@ use Rattle.counting.specs.Below.{tabulate}
 use Rattle.counting.proofs.Below.{length-tabulate, getD-tabulate, getD-tabulated}
 use Rattle.counting.proofs.Stores.{Stored, stored}
 use Rattle.counting.proofs.Stores.Stored.{here, apart}
-use Rattle.draw.specs.Tables.{table}
+use Rattle.draw.specs.Contracts.{table}
 
 tabulate-agree : {A : Type 0} (f g : ℕ → A) (n : ℕ) → ((k : ℕ) → k < n → f k ≡ g k) → tabulate f n ≡ tabulate g n
 unfolding tabulate

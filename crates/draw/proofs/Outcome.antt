@@ -10,15 +10,15 @@ use Rattle.answers.specs.declared.Answer.{Answer}
 use Rattle.answers.specs.declared.Answer.the-variants.{Accepted, NotSound}
 use Rattle.answers.specs.Answers.{refusalNumber}
 use Rattle.answers.specs.Refusals.{first, isAccepted}
-use Rattle.clauses.specs.Arrays.{Ends}
+use Rattle.clauses.specs.Contracts.{Ends}
 use Rattle.sheet.specs.Sound.{Sound}
 use Rattle.sheet.specs.Check.{sound}
-use Rattle.sheet.specs.Findings.{accepted, findingsOf}
+use Rattle.sheet.specs.Contracts.{accepted, findingsOf}
 use Rattle.sheet.proofs.Clauses.{findings-answer}
 use Rattle.drawing.specs.declared.Drawing.{Drawing}
 use Rattle.drawing.specs.declared.Drawn.{Drawn}
 use Rattle.drawing.specs.Draw.{edgeColumn, drawingOf, zeroDrawing, drawAnswer, drawCall}
-use Rattle.draw.specs.Tables.{table, sides, edgeColumns, drawingFrom}
+use Rattle.draw.specs.Contracts.{table, sides, edgeColumns, drawingFrom}
 use Rattle.draw.proofs.Columns.{columns-are, left-in}
 use Rattle.draw.proofs.Segments.{small, drawing-is}
 

@@ -14,10 +14,10 @@ use Rattle.sheet.specs.Check.{rowLevels, row}
 use Rattle.soundness.proofs.Rows.{row-law}
 use Rattle.drawing.specs.Draw.{edgeColumn, columnsAt, vertexSegment, edgeSegment, noVertexSegment, noEdgeSegment, drawingOf}
 use Rattle.drawing.proofs.Extremes.{Extreme, least-extreme, greatest-extreme}
-use Rattle.draw.specs.Tables.{table, bestBelow, edgeFrom, vertexFrom, drawingFrom}
+use Rattle.draw.specs.Contracts.{table, bestBelow, edgeFrom, vertexFrom, drawingFrom}
 use Rattle.draw.proofs.Filling.{table-at, table-agree}
 use Rattle.draw.proofs.Best.{Better, min-better, max-better, best-agree, found-best}
-use Rattle.draw.proofs.Widening.{touches-tail, touches-head}
+use Rattle.clauses.proofs.Touching.{touches-tail, touches-head}
 use Rattle.draw.proofs.Columns.{column-small}
 
 module _ {s : Sheet} (S : Sound s) where
@@ -32,18 +32,18 @@ module _ {s : Sheet} (S : Sound s) where
   column-at k h = table-at (edgeColumn s) 256 0 0 (s .edges) k h
 
   some : 0 < s .edges
-  some = omega (arith, S .edges-least)
+  some = omega (arith, S .limits .edges-least)
 
   pub small : (row s 1 < 256) × (getD (table (edgeColumn s) (s .edges) 256 0) 0 0 < 256)
   unfolding columns
-  small = (omega (arith, row-law S .fewer 1 (S .vertices-least), S .vertices-most), omega (arith, column-at 0 some, column-small S 0 some))
+  small = (omega (arith, row-law S .fewer 1 (S .limits .vertices-least), S .limits .vertices-most), omega (arith, column-at 0 some, column-small S 0 some))
 
   -- each vertex has an edge
   touched : (v : ℕ) → v < s .vertices → (k : ℕ) × (k < s .edges) × (touches s k v ≡ true)
   touched v h =
       by-cases (ℕ-discrete v 0)
-      (λ e. let (k, l, q) = S .other-sinks v h (omega arith) in (k, l, touches-tail s k v q))
-      (λ e. let (k, l, q) = S .other-sources v h e in (k, l, touches-head s k v q))
+      (λ e. let (k, l, q) = S .poles .other-sinks v h (omega arith) in (k, l, touches-tail (s .tails) (s .heads) k v q))
+      (λ e. let (k, l, q) = S .poles .other-sources v h e in (k, l, touches-head (s .tails) (s .heads) k v q))
 
   module _ (v : ℕ) (h : v < s .vertices) where
     -- how far the vertex reaches, where z is no better than any column

@@ -9,27 +9,15 @@ use native.Mathlib.Omega.{arith}
 use lib.Dec.{eqb}
 use lib.ListN.{getD, set}
 use borrow.Author.Tests.{eq-eqb, ne-eqb}
+use Rattle.clauses.proofs.Touching.{touches-tail, touches-head, touches-not}
 use Rattle.sheet.specs.declared.Sheet.{Sheet}
 use Rattle.sheet.specs.Darts.{tail, head, touches}
 use Rattle.sheet.specs.Sound.{Joins}
 use Rattle.drawing.specs.declared.VertexSegment.{VertexSegment}
 use Rattle.drawing.specs.Draw.{noVertexSegment}
-use Rattle.draw.specs.Tables.{table, bestBelow, unreachedFrom, vertexFrom, widenedBy}
+use Rattle.draw.specs.Contracts.{table, bestBelow, unreachedFrom, vertexFrom, widenedBy}
 use Rattle.draw.proofs.Filling.{table-at, table-put}
 use Rattle.draw.proofs.Best.{more-passes, more-fails}
-
-module _ (s : Sheet) (k v : ℕ) where
-  pub touches-tail : tail s k ≡ v → touches s k v ≡ true
-  unfolding touches
-  touches-tail e = rw (eq-eqb (tail s k) v e) refl
-
-  pub touches-head : head s k ≡ v → touches s k v ≡ true
-  unfolding touches
-  touches-head e = by-cases (ℕ-discrete (tail s k) v) touches-tail (λ n. rw (ne-eqb (tail s k) v n, eq-eqb (head s k) v e) refl)
-
-  apart-from : tail s k ≢ v → head s k ≢ v → touches s k v ≡ false
-  unfolding touches
-  apart-from t h = rw (ne-eqb (tail s k) v t, ne-eqb (head s k) v h) refl
 
 module _ (s : Sheet) (rows columns : List ℕ) where
   pub reached-none : (v : ℕ) → unreachedFrom rows v ≡ vertexFrom s rows columns 0 v
@@ -77,7 +65,7 @@ module _ (s : Sheet) (rows columns : List ℕ) where
       first-put =
           let below : t < s .vertices = omega (arith, J .tail-in) in
           let at : getD l t noVertexSegment ≡ old t = ap (λ a. getD a t noVertexSegment) le ∙ table-at old 128 noVertexSegment noVertexSegment (s .vertices) t below in
-          let put : x ≡ mid t = xe ∙ ap (λ a. widenedBy a (getD columns k 0)) at ∙ reached-more k t (touches-tail s k t (sym te)) ∙ sym (mid-there t refl) in
+          let put : x ≡ mid t = xe ∙ ap (λ a. widenedBy a (getD columns k 0)) at ∙ reached-more k t (touches-tail (s .tails) (s .heads) k t (sym te)) ∙ sym (mid-there t refl) in
           ap (λ a. set a t x) le ∙ table-put old 128 noVertexSegment mid (s .vertices) t x below put (λ j _ n. mid-apart j n)
 
       pub widened-more : (y : VertexSegment) → y ≡ widenedBy (getD (set l t x) h noVertexSegment) (getD columns k 0)
@@ -86,9 +74,9 @@ module _ (s : Sheet) (rows columns : List ℕ) where
       widened-more y ye =
           let below : h < s .vertices = omega (arith, J .head-in) in
           let at : getD (set l t x) h noVertexSegment ≡ old h = ap (λ a. getD a h noVertexSegment) first-put ∙ table-at mid 128 noVertexSegment noVertexSegment (s .vertices) h below ∙ sym (mid-apart h two) in
-          let put : y ≡ new h = ye ∙ ap (λ a. widenedBy a (getD columns k 0)) at ∙ reached-more k h (touches-head s k h (sym he)) in
+          let put : y ≡ new h = ye ∙ ap (λ a. widenedBy a (getD columns k 0)) at ∙ reached-more k h (touches-head (s .tails) (s .heads) k h (sym he)) in
           ap (λ a. set a h y) first-put ∙ table-put mid 128 noVertexSegment new (s .vertices) h y below put rest
         where
           rest : (j : ℕ) → j < s .vertices → j ≢ h → mid j ≡ new j
           rest j _ n = by-cases (ℕ-discrete j t) (mid-there j)
-              (λ m. sym (mid-apart j m) ∙ reached-kept k j (apart-from s k j (λ e. m (sym e ∙ sym te)) (λ e. n (sym e ∙ sym he))))
+              (λ m. sym (mid-apart j m) ∙ reached-kept k j (touches-not (s .tails) (s .heads) k j (λ e. m (sym e ∙ sym te)) (λ e. n (sym e ∙ sym he))))

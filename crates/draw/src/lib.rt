@@ -2,10 +2,10 @@
 ghost use mathlib.Core.Path.{_≡_};
 ghost use Prim.Native.Nat.{_≤_, _<_, min, max};
 ghost use lib.ListN.{getD};
-ghost use Rattle.clauses.specs.Arrays.{Ends};
+ghost use Rattle.clauses.specs.Contracts.{Ends};
 ghost use Rattle.sheet.specs.Sound.{Sound};
 ghost use Rattle.drawing.specs.Draw.{noVertexSegment, noEdgeSegment, zeroDrawing, drawCall};
-ghost use Rattle.draw.specs.Tables.{table, sides, faceColumns, columnBeside, edgeColumns, edgeFrom, unreachedFrom, vertexFrom, widenedBy, drawingFrom};
+ghost use Rattle.draw.specs.Contracts.{table, sides, faceColumns, columnBeside, edgeColumns, edgeFrom, unreachedFrom, vertexFrom, widenedBy, drawingFrom};
 use answers::Answer;
 use answers::is_accepted;
 use counting::wide;

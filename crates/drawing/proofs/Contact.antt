@@ -6,14 +6,14 @@ use Prim.Native.Nat.{ℕ, _*_, _<_}
 use native.Mathlib.Nat.{mul-le-mul-right}
 use native.Mathlib.Decide.{ℕ-discrete}
 use native.Mathlib.Omega.{arith}
-use Rattle.plane.specs.Order.{Edge}
-use Rattle.plane.specs.Columns.{ColumnLaws}
-use Rattle.plane.specs.Contact.{NoContact, Reaches, Joins}
-use Rattle.plane.specs.Contact as plane
-use Rattle.plane.proofs.Columns.{column-laws}
-use Rattle.plane.proofs.Contact.{apart}
-use Rattle.plane.proofs.Spans.{short-extent, short-reaches}
-use Rattle.plane.proofs.Points.{no-contact}
+use Rattle.planarmap.specs.Order.{Edge}
+use Rattle.planarmap.specs.Columns.{ColumnLaws}
+use Rattle.planarmap.specs.Contact.{NoContact, Reaches, Joins}
+use Rattle.planarmap.specs.Contact as plane
+use Rattle.planarmap.proofs.Columns.{column-laws}
+use Rattle.planarmap.proofs.Contact.{apart}
+use Rattle.planarmap.proofs.Spans.{short-extent, short-reaches}
+use Rattle.planarmap.proofs.Points.{no-contact}
 use Rattle.sheet.specs.declared.Sheet.{Sheet}
 use Rattle.clauses.specs.Darts.{tailDart, opposite}
 use Rattle.sheet.specs.Darts.{vertex}

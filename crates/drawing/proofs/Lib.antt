@@ -1,7 +1,9 @@
 pub mod Extremes
 pub mod Segments
+pub mod Laid
+pub mod Unique
 pub mod Contact
 pub mod Rings
 pub mod Order
-pub mod Right
+pub mod Correct
 pub mod Answered

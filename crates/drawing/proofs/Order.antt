@@ -11,14 +11,14 @@ use Rattle.counting.proofs.Iterate.{clash, iter-keeps}
 use Rattle.counting.proofs.Pigeonhole.{Found, find}
 use Rattle.counting.proofs.Pigeonhole.Found.{at, nowhere}
 use Rattle.counting.proofs.Reach.{returns}
-use Rattle.plane.specs.Map.{Map}
-use Rattle.plane.specs.Contact as plane
-use Rattle.plane.specs.Rotation.{Before}
-use Rattle.plane.specs.Rotation as plane-order
-use Rattle.plane.specs.Rotation.Before.{rising, turning, falling}
-use Rattle.plane.specs.Rotation.Follows.{directly, round}
-use Rattle.plane.proofs.Columns.{column-laws}
-use Rattle.plane.proofs.Rotation.{clockwise}
+use Rattle.planarmap.specs.Map.{Map}
+use Rattle.planarmap.specs.Contact as plane
+use Rattle.planarmap.specs.Rotation.{Before}
+use Rattle.planarmap.specs.Rotation as plane-order
+use Rattle.planarmap.specs.Rotation.Before.{rising, turning, falling}
+use Rattle.planarmap.specs.Rotation.Follows.{directly, round}
+use Rattle.planarmap.proofs.Columns.{column-laws}
+use Rattle.planarmap.proofs.Rotation.{clockwise}
 use Rattle.sheet.specs.declared.Sheet.{Sheet}
 use Rattle.sheet.specs.Darts.{darts, vertex, next}
 use Rattle.sheet.specs.Sound.{Sound}

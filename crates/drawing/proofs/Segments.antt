@@ -8,13 +8,13 @@ use native.Mathlib.Decide.{ℕ-discrete}
 use native.Mathlib.Omega.{arith}
 use lib.ListN.{replicate}
 use Rattle.counting.proofs.Iterate.{by-bool}
-use Rattle.plane.specs.Contact as plane
-use Rattle.plane.specs.Contact.{Short}
+use Rattle.planarmap.specs.Contact as plane
+use Rattle.planarmap.specs.Contact.{Short}
 use Rattle.sheet.specs.declared.Sheet.{Sheet}
-use Rattle.clauses.specs.Darts.{isTail}
+use Rattle.clauses.specs.Darts.{isTail, touchesOf}
 use Rattle.sheet.specs.Darts.{tail, head, darts, vertex, touches}
 use Rattle.sheet.specs.Sound.{Sound}
-use Rattle.sheet.specs.Check.{column}
+use Rattle.sheet.specs.Check.{row, column}
 use Rattle.soundness.specs.Maps.{mapOf}
 use Rattle.counting.proofs.Below.{getD-tabulated}
 use Rattle.soundness.proofs.Tests.{Says, eq-says, or-says}
@@ -30,6 +30,10 @@ module _ (s : Sheet) where
   pub vertex-entry : (v : ℕ) → v < s .vertices → vertexOf (drawingOf s) v ≡ vertexSegment s v
   unfolding drawingOf
   vertex-entry v h = getD-tabulated (vertexSegment s) (replicate (128 - s .vertices) noVertexSegment) noVertexSegment (s .vertices) v h
+
+  pub vertex-row : (v : ℕ) → v < s .vertices → vertexOf (drawingOf s) v .row ≡ row s v
+  unfolding vertexSegment
+  vertex-row v h = ap (λ z. z .row) (vertex-entry v h)
 
   pub edge-entry : (k : ℕ) → k < s .edges → edgeOf (drawingOf s) k ≡ edgeSegment s k
   unfolding drawingOf
@@ -51,8 +55,8 @@ module _ (s : Sheet) where
 
   -- ---- the darts at a vertex, by the edges that touch it
 
-  touches-says : (k v : ℕ) → Says (touches s k v) ((tail s k ≡ v) ⊎ (head s k ≡ v))
-  unfolding touches
+  pub touches-says : (k v : ℕ) → Says (touches s k v) ((tail s k ≡ v) ⊎ (head s k ≡ v))
+  unfolding touchesOf
   touches-says k v = or-says (eq-says (tail s k) v) (eq-says (head s k) v)
 
   dart-touches : (d v : ℕ) → vertex s d ≡ v → touches s (d / 2) v ≡ true
@@ -81,18 +85,23 @@ module _ {s : Sheet} (S : Sound s) where
       (λ n. let (d, l, q, _) = plane-of S .bipolar .has-in h n in (d, l, q))
 
   module _ {R : ℕ → ℕ → Type 0} {best : List ℕ → ℕ} (E : Extreme R best) (v : ℕ) (h : v < s .vertices) where
-    found : (d : ℕ) × (d < darts s) × (vertex s d ≡ v) × (best (columnsAt s v) ≡ plane.edgeColumn (mapOf s) (column s) d)
+    -- the best column at a vertex is that of an edge that touches it, and stands to that of each such edge as R says
+    pub edge-found : (k : ℕ) × (k < s .edges) × (touches s k v ≡ true) × (best (columnsAt s v) ≡ edgeColumn s k)
     unfolding columnsAt
+    edge-found = let (d, l, q) = some-dart v h in best-is E (λ k. touches s k v) (edgeColumn s) (s .edges) (d / 2) (edge-below s l) (dart-touches s d v q)
+
+    pub edge-bound : (k : ℕ) → k < s .edges → touches s k v ≡ true → R (best (columnsAt s v)) (edgeColumn s k)
+    unfolding columnsAt
+    edge-bound k i t = best-bounds E (λ k. touches s k v) (edgeColumn s) (s .edges) k i t k i t
+
+    found : (d : ℕ) × (d < darts s) × (vertex s d ≡ v) × (best (columnsAt s v) ≡ plane.edgeColumn (mapOf s) (column s) d)
     found =
-        let (e, l, q) = some-dart v h in
-        let (j, i, t, p) = best-is E (λ k. touches s k v) (edgeColumn s) (s .edges) (e / 2) (edge-below s l) (dart-touches s e v q) in
+        let (j, i, t, p) = edge-found in
         let (d, m, r, z) = touching-dart s j v i t in
         (d, m, r, p ∙ ap (edgeColumn s) (sym z) ∙ sym (column-at s d))
 
     bound : (d : ℕ) → d < darts s → vertex s d ≡ v → R (best (columnsAt s v)) (plane.edgeColumn (mapOf s) (column s) d)
-    unfolding columnsAt
-    bound d l q = rw (column-at s d)
-        (best-bounds E (λ k. touches s k v) (edgeColumn s) (s .edges) (d / 2) (edge-below s l) (dart-touches s d v q) (d / 2) (edge-below s l) (dart-touches s d v q))
+    bound d l q = rw (column-at s d) (edge-bound (d / 2) (edge-below s l) (dart-touches s d v q))
 
   pub short-of : Short (mapOf s) (column s) (firstOf s) (lastOf s)
   short-of = record {

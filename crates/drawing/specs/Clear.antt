@@ -1,4 +1,4 @@
--- Demand 3's drawing: nothing touches that may not, every ring stands in its order, and the size is bounded.
+-- Demand 3's drawing: nothing touches that may not, every ring stands in its order, and all lies in rows and columns whose numbers are bounded.
 use Prim.Native.Nat.{ℕ, _+_, _/_, _≤_, _<_}
 use mathlib.Core.Path.{_≡_}
 use mathlib.Core.Bool.{Bool, true, false}
@@ -9,7 +9,7 @@ use Rattle.sheet.specs.declared.Sheet.{Sheet}
 use Rattle.clauses.specs.Darts.{isTail}
 use Rattle.sheet.specs.Darts.{tail, head, darts, vertex, next}
 use Rattle.drawing.specs.declared.Drawing.{Drawing}
-use Rattle.drawing.specs.Points.{Point, OnVertex, OnEdge, TailEnd, HeadEnd, edgeOf}
+use Rattle.drawing.specs.Points.{Point, OnVertex, OnEdge, TailEnd, HeadEnd, vertexOf, edgeOf}
 
 -- wires k and l meet where one ends and the other begins, on one bar
 pub record Meet (s : Sheet) (D : Drawing) (k l : ℕ) (p : Point) : Type 0 where
@@ -66,13 +66,18 @@ pub record Clockwise (s : Sheet) (D : Drawing) (v : ℕ) : Type 0 where
   pub falling : Falling (dartColumn D) down
   pub ring : Cycle s (getD (up ++ down) 0 0) (up ++ down)
 
--- at most n rows and m − n + 2 columns
+-- every bar and wire lies in the rows and columns; these are at most n rows and m − n + 2 columns
 pub record Fits (s : Sheet) (D : Drawing) : Type 0 where
+  pub vertex-row : (v : ℕ) → v < s .vertices → vertexOf D v .row < D .rows
+  pub vertex-first : (v : ℕ) → v < s .vertices → vertexOf D v .first < D .columns
+  pub vertex-last : (v : ℕ) → v < s .vertices → vertexOf D v .last < D .columns
+  pub edge-column : (k : ℕ) → k < s .edges → edgeOf D k .column < D .columns
+  pub edge-high : (k : ℕ) → k < s .edges → edgeOf D k .high < D .rows
   pub rows : D .rows ≤ s .vertices
   pub columns : D .columns + s .vertices ≤ s .edges + 2
 
--- nothing touches that may not, every ring stands in its order, at most n rows and m − n + 2 columns
-pub record Right (s : Sheet) (D : Drawing) : Type 0 where
+-- nothing touches that may not, every ring stands in its order, all lies in at most n rows and m − n + 2 columns
+pub record Correct (s : Sheet) (D : Drawing) : Type 0 where
   pub clear : Clear s D
   pub ordered : (v : ℕ) → v < s .vertices → Clockwise s D v
   pub fits : Fits s D

@@ -1,4 +1,5 @@
 pub mod Draw
 pub mod Write
 pub mod Points
+pub mod Laid
 pub mod Clear

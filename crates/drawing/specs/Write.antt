@@ -6,9 +6,9 @@ use Rattle.counting.specs.Below.{joinBelow}
 use Rattle.text.specs.Bytes.{bytes}
 use Rattle.text.specs.Written.{line}
 use Rattle.sheet.specs.declared.Sheet.{Sheet}
-use Rattle.write.specs.declared.Written.{Written}
+use Rattle.writesheet.specs.declared.Written.{Written}
 use Rattle.text.specs.Keys.{wireKey}
-use Rattle.write.specs.Write.{writeAnswer, written, bufferAfter}
+use Rattle.writesheet.specs.Write.{writeAnswer, written, bufferAfter}
 use Rattle.drawing.specs.declared.VertexSegment.{VertexSegment}
 use Rattle.drawing.specs.declared.EdgeSegment.{EdgeSegment}
 use Rattle.drawing.specs.declared.Drawing.{Drawing}

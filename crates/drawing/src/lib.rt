@@ -2,6 +2,7 @@
 use answers::Answer;
 
 // A vertex (bar) lies in its row, from its first to its last column.
+#[repr(C)]
 pub struct VertexSegment {
     pub row: u16,
     pub first: u16,
@@ -9,6 +10,7 @@ pub struct VertexSegment {
 }
 
 // An edge (wire) stands in its column, from its tail's row to its head's row.
+#[repr(C)]
 pub struct EdgeSegment {
     pub column: u16,
     pub low: u16,
@@ -16,6 +18,7 @@ pub struct EdgeSegment {
 }
 
 // The drawing record; unused entries are 0.
+#[repr(C)]
 pub struct Drawing {
     pub rows: u16,
     pub columns: u16,

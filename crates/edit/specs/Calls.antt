@@ -7,7 +7,7 @@ use Rattle.counting.specs.Counts.{count}
 use Rattle.counting.specs.Choice.{pick}
 use Rattle.sheet.specs.declared.Sheet.{Sheet}
 use Rattle.answers.specs.declared.Answer.{Answer}
-use Rattle.answers.specs.declared.Answer.the-variants.{NotSound, NotInSheet, Full, RootEdge, CornersApart, ClosesCircle, EdgeNeeded, VertexNeeded, BadLayout}
+use Rattle.answers.specs.declared.Answer.the-variants.{NotSound, NotInSheet, Full, RootEdge, CornersApart, ClosesCircle, EdgeNeeded, VertexNeeded}
 use Rattle.answers.specs.Refusals.{first, _if_, isAccepted}
 use Rattle.clauses.specs.Darts.{opposite}
 use Rattle.sheet.specs.Darts.{tail, head, touches, dartAt}
@@ -15,6 +15,7 @@ use Rattle.sheet.specs.Check.{sound, face}
 use Rattle.edit.specs.declared.Edit.{Edit}
 use Rattle.edit.specs.declared.Edit.the-variants.{In, Run, Out, Off, Refused}
 use Rattle.edit.specs.declared.Edited.{Edited}
+use Rattle.edit.specs.Lines.{editAnswer}
 use Rattle.edit.specs.Reaching.{leadsTo}
 use Rattle.edit.specs.Changes.{putIn, runEdge, takeOutEdge, takeOutVertex}
 
@@ -91,4 +92,4 @@ apply s (In k) = putInCall s k
 apply s (Run a p b q) = runCall s a p b q
 apply s (Out k) = takeOutEdgeCall s k
 apply s (Off v) = takeOutVertexCall s v
-apply s Refused = record { answer = BadLayout; sheet = s }
+apply s Refused = record { answer = editAnswer Refused; sheet = s }

@@ -40,14 +40,14 @@ unfoldable pub lineLength : List ℕ → ℕ
 lineLength [] = 0
 lineLength (b ∷ s) = cond (eqb b 10) 1 (suc (lineLength s))
 
--- Read edit
-unfoldable pub readEdit : List ℕ → EditRead
-readEdit text = record { edit = editOf text; taken = lineLength text }
-
 -- Read edit refuses by 1 alone: line not of the layout.
-unfoldable pub editAnswer : Edit → Answer
+abbrev pub editAnswer : Edit → Answer
 editAnswer (In k) = Accepted
 editAnswer (Run a p b q) = Accepted
 editAnswer (Out k) = Accepted
 editAnswer (Off v) = Accepted
 editAnswer Refused = BadLayout
+
+-- Read edit
+unfoldable pub readEdit : List ℕ → EditRead
+readEdit text = record { answer = editAnswer (editOf text); edit = editOf text; taken = lineLength text }

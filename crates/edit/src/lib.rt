@@ -1,6 +1,7 @@
 // Edits of a sheet, as lines of text and as calls.
 ghost use mathlib.Core.Path.{_≡_};
-ghost use Rattle.edit.specs.Lines.{editOf, lineLength, readEdit};
+ghost use Rattle.answers.specs.declared.Answer.the-variants.{Accepted};
+ghost use Rattle.edit.specs.Lines.{editOf, editAnswer, lineLength, readEdit};
 use answers::Answer;
 use sheet::Sheet;
 
@@ -14,8 +15,9 @@ pub enum Edit {
     Refused,
 }
 
-// An edit read from a text, and how many bytes it took.
+// What read edit answers: acceptance or 1, the edit, and how many bytes its line took.
 pub struct EditRead {
+    pub answer: Answer,
     pub edit: Edit,
     pub taken: usize,
 }
@@ -24,6 +26,23 @@ pub struct EditRead {
 pub struct Edited {
     pub answer: Answer,
     pub sheet: Sheet,
+}
+
+// A refused edit hands back the sheet it got.
+pub fn refuse(answer: Answer, s: Sheet) -> Edited
+    ensures { λ r. ⌜ r ≡ record { answer = answer; sheet = s } ⌝ }
+{
+    Edited { answer, sheet: s }
+}
+
+// An accepted one hands out the sheet that it made.
+pub fn accept(s: Sheet) -> Edited
+    ensures { λ r. ⌜ r ≡ record { answer = Accepted; sheet = s } ⌝ }
+{
+    Edited {
+        answer: Answer::Accepted,
+        sheet: s,
+    }
 }
 
 // How many bytes the line at the front of a text has, its byte 10 included.
@@ -63,12 +82,27 @@ fn edit_of(text: &[u8]) -> Edit
     Edit::Refused
 }
 
-// Read edit: the edit of the line at the front of a text, and the bytes that the line takes.
+// Read edit refuses by 1 alone: line not of the layout.
+fn edit_answer(e: Edit) -> Answer
+    ensures { λ r. ⌜ r ≡ editAnswer e ⌝ }
+{
+    match e {
+        Edit::In(_) => Answer::Accepted,
+        Edit::Run(_, _, _, _) => Answer::Accepted,
+        Edit::Out(_) => Answer::Accepted,
+        Edit::Off(_) => Answer::Accepted,
+        Edit::Refused => Answer::BadLayout,
+    }
+}
+
+// Read edit: the edit of the line at the front of a text, whether it is one, and the bytes that the line takes.
 pub fn read_edit(text: &[u8]) -> EditRead
     ensures { λ r. ⌜ r ≡ readEdit (now (text .entry)) ⌝ }
 {
+    let edit = edit_of(text);
     EditRead {
-        edit: edit_of(text),
+        answer: edit_answer(edit),
+        edit,
         taken: line_length(text),
     }
 }

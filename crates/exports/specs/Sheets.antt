@@ -4,9 +4,9 @@ use mathlib.Core.Path.{_≡_}
 use mathlib.Core.List.{List}
 use Rattle.sheet.specs.Darts.{sheetOf}
 use Rattle.answers.specs.Answers.{refusalNumber}
-use Rattle.format.specs.declared.Loaded.{Loaded}
+use Rattle.load.specs.declared.Loaded.{Loaded}
 use Rattle.edit.specs.declared.Edited.{Edited}
-use Rattle.write.specs.declared.Written.{Written}
+use Rattle.writesheet.specs.declared.Written.{Written}
 
 -- the answer's number, the sheet in parts, and the bytes taken
 pub record Parts (l : Loaded) (number vertices edges : ℕ) (tails heads nexts : List ℕ) (taken : ℕ) : Type 0 where

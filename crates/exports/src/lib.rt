@@ -3,13 +3,19 @@ ghost use mathlib.Core.Path.{_≡_};
 ghost use Rattle.digraph.specs.Relaxed.{levelsOf};
 ghost use Rattle.orbits.specs.Tables.{traced};
 ghost use Rattle.sheet.specs.Check.{sound};
-ghost use Rattle.format.specs.Load.{load};
-ghost use Rattle.write.specs.Write.{writeSheet, bufferAfterSheet};
+ghost use Rattle.load.specs.Load.{load};
+ghost use Rattle.writesheet.specs.Write.{writeSheet, bufferAfterSheet};
 ghost use Rattle.edit.specs.Lines.{readEdit};
 ghost use Rattle.drawing.specs.Write.{writeDrawing, bufferAfterDrawing};
+ghost use Rattle.program.specs.Program.{writeOutput, bufferAfterOutput};
 ghost use Rattle.exports.specs.Edits.{kindOf, numbersIn, editBy};
+ghost use Rattle.answers.specs.declared.Answer.the-variants.{Accepted};
+ghost use Rattle.replay.specs.Encoded.{callsOf};
+ghost use Rattle.replay.specs.Replayed.{Replayed};
 ghost use Rattle.sheet.specs.Darts.{sheetOf};
 ghost use Rattle.exports.specs.Sheets.{Parts, Changed, Filled};
+use answers::Answer;
+use drawing::Drawing;
 use edit::Edit;
 use edit::Edited;
 use sheet::Sheet;
@@ -42,6 +48,28 @@ pub extern "C" fn walnut_trace(size: usize, step: &[u16; 512], orbit: &mut [u16;
     found.count
 }
 
+// A sheet from its parts.
+fn sheet_of(
+    vertices: usize,
+    edges: usize,
+    tails: &[u16; 256],
+    heads: &[u16; 256],
+    nexts: &[u16; 512],
+) -> Sheet
+    ensures { λ r. ⌜ r ≡ sheetOf vertices edges (now (tails .entry)) (now (heads .entry)) (now (nexts .entry)) ⌝ }
+{
+    let t = *tails;
+    let h = *heads;
+    let n = *nexts;
+    Sheet {
+        vertices,
+        edges,
+        tails: t,
+        heads: h,
+        nexts: n,
+    }
+}
+
 // Whether a record is a sound sheet.
 #[no_mangle]
 pub extern "C" fn walnut_is_sound(
@@ -53,16 +81,7 @@ pub extern "C" fn walnut_is_sound(
 ) -> bool
     ensures { λ r. ⌜ r ≡ sound (sheetOf vertices edges (now (tails .entry)) (now (heads .entry)) (now (nexts .entry))) ⌝ }
 {
-    let t = *tails;
-    let h = *heads;
-    let n = *nexts;
-    sheet::is_sound(Sheet {
-        vertices,
-        edges,
-        tails: t,
-        heads: h,
-        nexts: n,
-    })
+    sheet::is_sound(sheet_of(vertices, edges, tails, heads, nexts))
 }
 
 // Load. The present sheet is lent in parts, and the sheet that load returns takes its place.
@@ -88,7 +107,7 @@ pub extern "C" fn walnut_load(
         heads: old_heads,
         nexts: old_nexts,
     };
-    let loaded = format::load(text, present);
+    let loaded = load::load(text, present);
     let sheet = loaded.sheet;
     let new_tails = sheet.tails;
     let new_heads = sheet.heads;
@@ -116,36 +135,30 @@ pub extern "C" fn walnut_write_sheet(
 ) -> u16
     ensures { λ r. ⌜ Filled (writeSheet (sheetOf vertices edges (now (tails .entry)) (now (heads .entry)) (now (nexts .entry))) (now (buffer .entry))) (bufferAfterSheet (sheetOf vertices edges (now (tails .entry)) (now (heads .entry)) (now (nexts .entry))) (now (buffer .entry))) r (now (count .exit)) (now (buffer .exit)) ⌝ }
 {
-    let t = *tails;
-    let h = *heads;
-    let n = *nexts;
-    let sheet = Sheet {
-        vertices,
-        edges,
-        tails: t,
-        heads: h,
-        nexts: n,
-    };
-    let written = write::write_sheet(sheet, buffer);
+    let sheet = sheet_of(vertices, edges, tails, heads, nexts);
+    let written = writesheet::write_sheet(sheet, buffer);
     *count = written.count;
     let answer = written.answer;
     answers::refusal_number(answer)
 }
 
-// One of the four edits by its kind: 0 in, 1 run, 2 out, any other off. The numbers past those that it has are not looked at.
+// One of the four edits by its kind: 0 in, 1 run, 2 out, 3 off; any other is refused 1. The numbers past those that it has are not looked at.
 fn edit_by(kind: u16, s: Sheet, a: usize, p: usize, b: usize, q: usize) -> Edited
     ensures { λ r. ⌜ r ≡ editBy kind a p b q s ⌝ }
 {
     if kind == 0 {
-        return change::put_in(s, a);
+        return putin::put_in(s, a);
     }
     if kind == 1 {
         return run::run(s, a, p, b, q);
     }
     if kind == 2 {
-        return takeout::take_out_edge(s, a);
+        return takeoutedge::take_out_edge(s, a);
     }
-    takeout::take_out_vertex(s, a)
+    if kind == 3 {
+        return takeoutvertex::take_out_vertex(s, a);
+    }
+    edit::refuse(Answer::BadLayout, s)
 }
 
 // An edit. The sheet is lent in parts, and the sheet that the edit returns takes its place.
@@ -188,6 +201,17 @@ pub extern "C" fn walnut_edit(
     answers::refusal_number(answer)
 }
 
+// A list of calls from the fresh sheet, five numbers a call: its kind (0 in, 1 run, 2 out, 3 off, 4 load; any other is refused 10) and four numbers;
+// a load takes the bytes of the text from the first of them up to the second. Each call's number and bytes taken are put into the
+// lent numbers, two a call, and the drawing of the sheet after the list is returned.
+#[no_mangle]
+pub extern "C" fn walnut_replay(calls: &[usize], text: &[u8], answers: &mut [usize]) -> Drawing
+    ensures { λ r. ⌜ Replayed (callsOf (now (calls .entry)) (now (text .entry))) (now (answers .entry)) (record { answer = Accepted; drawing = r }) (now (answers .exit)) ⌝ }
+{
+    let drawn = replay::replay(calls, text, answers);
+    drawn.drawing
+}
+
 // Write drawing.
 #[no_mangle]
 pub extern "C" fn walnut_write_drawing(
@@ -201,23 +225,14 @@ pub extern "C" fn walnut_write_drawing(
 ) -> u16
     ensures { λ r. ⌜ Filled (writeDrawing (sheetOf vertices edges (now (tails .entry)) (now (heads .entry)) (now (nexts .entry))) (now (buffer .entry))) (bufferAfterDrawing (sheetOf vertices edges (now (tails .entry)) (now (heads .entry)) (now (nexts .entry))) (now (buffer .entry))) r (now (count .exit)) (now (buffer .exit)) ⌝ }
 {
-    let t = *tails;
-    let h = *heads;
-    let n = *nexts;
-    let sheet = Sheet {
-        vertices,
-        edges,
-        tails: t,
-        heads: h,
-        nexts: n,
-    };
-    let written = drawtext::write_drawing(sheet, buffer);
+    let sheet = sheet_of(vertices, edges, tails, heads, nexts);
+    let written = writedrawing::write_drawing(sheet, buffer);
     *count = written.count;
     let answer = written.answer;
     answers::refusal_number(answer)
 }
 
-// The kind of an edit: 0 in, 1 run, 2 out, 3 off, 4 refused.
+// The kind of an edit: 0 in, 1 run, 2 out, 3 off; 5 of a line that is refused (4 is a load in a list of calls).
 fn kind(e: Edit) -> u16
     ensures { λ r. ⌜ r ≡ kindOf e ⌝ }
 {
@@ -226,7 +241,7 @@ fn kind(e: Edit) -> u16
         Edit::Run(_, _, _, _) => 1,
         Edit::Out(_) => 2,
         Edit::Off(_) => 3,
-        Edit::Refused => 4,
+        Edit::Refused => 5,
     }
 }
 
@@ -254,4 +269,15 @@ pub extern "C" fn walnut_read_edit(text: &[u8], numbers: &mut [u16; 4], taken: &
     *numbers = found;
     *taken = read.taken;
     kind(e)
+}
+
+// The program `plate` as a function: the output for an input, at the front of the buffer.
+#[no_mangle]
+pub extern "C" fn walnut_plate(input: &[u8], buffer: &mut [u8], count: &mut usize) -> u16
+    ensures { λ r. ⌜ Filled (writeOutput (now (input .entry)) (now (buffer .entry))) (bufferAfterOutput (now (input .entry)) (now (buffer .entry))) r (now (count .exit)) (now (buffer .exit)) ⌝ }
+{
+    let written = program::plate(input, buffer);
+    *count = written.count;
+    let answer = written.answer;
+    answers::refusal_number(answer)
 }

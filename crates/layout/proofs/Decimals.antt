@@ -9,15 +9,15 @@ use lib.ListN.{getD, length}
 use Rattle.text.specs.declared.Number.the-variants.{Value}
 use Rattle.text.specs.Reading.{digitAt, numberAt}
 use Rattle.text.specs.Written.{decimal}
-use Rattle.layout.specs.Layout.{Holds}
-use Rattle.layout.proofs.Holding.{holds-nil, holds-cons}
+use Rattle.layout.specs.Layout.{Stands}
+use Rattle.layout.proofs.Standing.{stands-nil, stands-cons}
 use Rattle.text.proofs.DigitLaws.{mid-digit, digit-byte, digit-small, digit-inside, one-digit, two-digits, three-digits, by-digits}
 use Rattle.buffer.proofs.Writing.{one, two, three}
 
 -- a number stands at a place: its decimal digits, and no digit after them
-pub record Stands (s : List ℕ) (at v next : ℕ) : Type 0 where
+pub record NumberAt (s : List ℕ) (at v next : ℕ) : Type 0 where
   pub small : v < 1000
-  pub holds : Holds s at (decimal v)
+  pub holds : Stands s at (decimal v)
   pub place : next ≡ at + length (decimal v)
   pub some : at < next
   pub stop : digitAt s next ≡ 10
@@ -27,7 +27,7 @@ module _ (s : List ℕ) (at : ℕ) where
   digit-at : (x i : ℕ) → x < 10 → getD s i 0 ≡ x + 48 → x ≡ digitAt s i
   digit-at x i h e = rw e (sym (mid-digit (x + 48) (omega arith) (omega arith) ∙ omega arith))
 
-  module _ (v : ℕ) (small : v < 1000) (h : Holds s at (decimal v)) (stop : 10 ≤ digitAt s (at + length (decimal v))) where
+  module _ (v : ℕ) (small : v < 1000) (h : Stands s at (decimal v)) (stop : 10 ≤ digitAt s (at + length (decimal v))) where
     case-one : v < 10 → numberAt s at ≡ Value v (at + length (decimal v))
     case-one l =
         let e = one v l in
@@ -71,20 +71,20 @@ module _ (s : List ℕ) (at : ℕ) where
   stop-at i h = omega (arith, digit-small (getD s i 0))
 
   module _ (a : ℕ) (ea : a ≡ digitAt s at) (la : a < 10) where
-    stands-one : 10 ≤ digitAt s (at + 1) → Stands s at a (at + 1)
+    stands-one : 10 ≤ digitAt s (at + 1) → NumberAt s at a (at + 1)
     stands-one h =
         let (l, e) = byte-at a at ea la in
         let n : length (decimal a) ≡ 1 = ap length (one a la) in
         record {
           small = omega arith;
-          holds = rw (one a la) (holds-cons l (e ∙ omega arith) (holds-nil s (at + 1) (omega arith)));
+          holds = rw (one a la) (stands-cons l (e ∙ omega arith) (stands-nil s (at + 1) (omega arith)));
           place = omega arith;
           some = omega arith;
           stop = stop-at (at + 1) h;
         }
 
     module _ (b : ℕ) (eb : b ≡ digitAt s (at + 1)) (lb : b < 10) (na : a ≡ 0 → ⊥) where
-      stands-two : 10 ≤ digitAt s (at + 2) → Stands s at (a * 10 + b) (at + 2)
+      stands-two : 10 ≤ digitAt s (at + 2) → NumberAt s at (a * 10 + b) (at + 2)
       stands-two h =
           let (l, e) = byte-at a at ea la in
           let (m, f) = byte-at b (at + 1) eb lb in
@@ -92,14 +92,14 @@ module _ (s : List ℕ) (at : ℕ) where
           let n : length (decimal (a * 10 + b)) ≡ 2 = ap length d in
           record {
             small = omega arith;
-            holds = rw d (holds-cons l (e ∙ omega arith) (holds-cons m (f ∙ omega arith) (holds-nil s (at + 1 + 1) (omega arith))));
+            holds = rw d (stands-cons l (e ∙ omega arith) (stands-cons m (f ∙ omega arith) (stands-nil s (at + 1 + 1) (omega arith))));
             place = omega arith;
             some = omega arith;
             stop = stop-at (at + 2) h;
           }
 
       module _ (c : ℕ) (ec : c ≡ digitAt s (at + 2)) (lc : c < 10) where
-        stands-three : 10 ≤ digitAt s (at + 3) → Stands s at (a * 100 + b * 10 + c) (at + 3)
+        stands-three : 10 ≤ digitAt s (at + 3) → NumberAt s at (a * 100 + b * 10 + c) (at + 3)
         stands-three h =
             let (l, e) = byte-at a at ea la in
             let (m, f) = byte-at b (at + 1) eb lb in
@@ -109,11 +109,11 @@ module _ (s : List ℕ) (at : ℕ) where
             let z : at + 1 + 1 ≡ at + 2 = omega arith in
             record {
               small = omega arith;
-              holds = rw d (holds-cons l (e ∙ omega arith) (holds-cons m (f ∙ omega arith) (rw z (holds-cons o (g ∙ omega arith) (holds-nil s (at + 2 + 1) (omega arith))))));
+              holds = rw d (stands-cons l (e ∙ omega arith) (stands-cons m (f ∙ omega arith) (rw z (stands-cons o (g ∙ omega arith) (stands-nil s (at + 2 + 1) (omega arith))))));
               place = omega arith;
               some = omega arith;
               stop = stop-at (at + 3) h;
             }
 
-  pub number-stands : (v next : ℕ) → numberAt s at ≡ Value v next → Stands s at v next
-  number-stands v next e = by-digits s at (Stands s at) v next e stands-one stands-two stands-three
+  pub number-stands : (v next : ℕ) → numberAt s at ≡ Value v next → NumberAt s at v next
+  number-stands v next e = by-digits s at (NumberAt s at) v next e stands-one stands-two stands-three

@@ -1,6 +1,6 @@
 -- Reading and writing owe each other what specs/Layout.antt says. Assumes nothing.
 use Rattle.layout.specs.Layout.{Layout}
-use Rattle.layout.proofs.Holding.{sets-holds, sets-other}
+use Rattle.layout.proofs.Standing.{sets-holds, sets-other}
 use Rattle.layout.proofs.Back.{decimal-digits, numbers-back, line-back, last-back, last-bare}
 use Rattle.layout.proofs.Only.{numbers-only, numbers-walk, line-only, last-only}
 

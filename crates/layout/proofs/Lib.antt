@@ -1,5 +1,6 @@
-pub mod Holding
+pub mod Standing
 pub mod Decimals
 pub mod Back
 pub mod Only
+pub mod Shapes
 pub mod Laws

@@ -15,8 +15,8 @@ use Rattle.text.specs.declared.Number.{Number}
 use Rattle.text.specs.declared.Number.the-variants.{Value, Missing}
 use Rattle.text.specs.Written.{decimal, separated, lineEnd, line}
 use Rattle.text.specs.Reading.{numberAt, startsWith, Listed, listed, unlisted, before, lineEndAt, numbersAt, lineAt, lastLineAt}
-use Rattle.layout.specs.Layout.{Holds, Numerals, Walk, single, more, Same}
-use Rattle.layout.proofs.Holding.{holds-nil, holds-cons, holds-append}
+use Rattle.layout.specs.Layout.{Stands, Numerals, Walk, single, more, Same}
+use Rattle.layout.proofs.Standing.{stands-nil, stands-cons, stands-append}
 use Rattle.layout.proofs.Decimals.{number-stands}
 use Rattle.text.proofs.Listing.{numbers-none, numbers-last, numbers-more}
 use Rattle.text.proofs.DigitLaws.{inside}
@@ -70,10 +70,10 @@ module _ (s : List ℕ) (at next v : ℕ) where
       let h = number-stands s at v to r in
       let t = ih (to + 1) m in
       let p = h .place in
-      let there : Holds s to (44 ∷ separated (w ∷ vs)) = holds-cons (inside s to (omega arith)) c (t .holds) in
+      let there : Stands s to (44 ∷ separated (w ∷ vs)) = stands-cons (inside s to (omega arith)) c (t .holds) in
       record {
         numerals = numerals-more v (w ∷ vs) (h .small) (t .numerals .small);
-        holds = holds-append (decimal v) (44 ∷ separated (w ∷ vs)) (h .holds) (rw p at there);
+        holds = stands-append (decimal v) (44 ∷ separated (w ∷ vs)) (h .holds) (rw p at there);
         place = omega (arith, t .place, length-append (decimal v) (44 ∷ separated (w ∷ vs)));
       }
 
@@ -82,16 +82,16 @@ numbers-only s [] at next e = none-listed s at next 0 (numbers-walk s [] at next
 numbers-only s (v ∷ vs) at next e = number-only s at next v vs (numbers-walk s (v ∷ vs) at next e) (λ to m. numbers-only s vs to next m)
 
 -- a key that a text begins with stands there
-pub starts-only : (key s : List ℕ) (at : ℕ) → at ≤ length s → startsWith key (drop at s) ≡ true → Holds s at key
+pub starts-only : (key s : List ℕ) (at : ℕ) → at ≤ length s → startsWith key (drop at s) ≡ true → Stands s at key
 unfolding startsWith
-starts-only [] s at l e = holds-nil s at l
+starts-only [] s at l e = stands-nil s at l
 starts-only (k ∷ key) s at l e = go (decLt at (length s)) (λ i f. starts-only key s (at + 1) i f)
   where
-    both : (b : Bool) → eqb (getD s at 0) k ≡ b → (b && startsWith key (drop (at + 1) s)) ≡ true → at < length s → (at + 1 ≤ length s → startsWith key (drop (at + 1) s) ≡ true → Holds s (at + 1) key) → Holds s at (k ∷ key)
-    both true q f i ih = holds-cons i (eqb-true (getD s at 0) k q) (ih (omega arith) f)
+    both : (b : Bool) → eqb (getD s at 0) k ≡ b → (b && startsWith key (drop (at + 1) s)) ≡ true → at < length s → (at + 1 ≤ length s → startsWith key (drop (at + 1) s) ≡ true → Stands s (at + 1) key) → Stands s at (k ∷ key)
+    both true q f i ih = stands-cons i (eqb-true (getD s at 0) k q) (ih (omega arith) f)
     both false q f i ih = absurd (false≢true f)
 
-    go : Dec (at < length s) → (at + 1 ≤ length s → startsWith key (drop (at + 1) s) ≡ true → Holds s (at + 1) key) → Holds s at (k ∷ key)
+    go : Dec (at < length s) → (at + 1 ≤ length s → startsWith key (drop (at + 1) s) ≡ true → Stands s (at + 1) key) → Stands s at (k ∷ key)
     go (yes i) ih = both (eqb (getD s at 0) k) refl (rw (drop-cons s at 0 i, ← add-one at) at e) i ih
     go (no n) ih = let d : drop at s ≡ [] = drop-of-length-le s {i = at} (omega arith) in absurd (false≢true (rw d at e))
 
@@ -116,7 +116,7 @@ module _ (key s : List ℕ) (at : ℕ) where
       let t = numbers-only s vs (at + length key) next e in
       record {
         numerals = t .numerals;
-        holds = holds-append key (separated vs) (starts-only key s at (omega (arith, t .holds .room)) k) (t .holds);
+        holds = stands-append key (separated vs) (starts-only key s at (omega (arith, t .holds .room)) k) (t .holds);
         place = omega (arith, t .place, length-append key (separated vs));
       }
 
@@ -126,10 +126,10 @@ module _ (key s : List ℕ) (at : ℕ) where
       let (b, o) = line-end-only s next n in
       let i = inside s next (omega arith) in
       let p = t .place in
-      let there : Holds s next lineEnd = holds-cons i b (holds-nil s (next + 1) (omega arith)) in
+      let there : Stands s next lineEnd = stands-cons i b (stands-nil s (next + 1) (omega arith)) in
       record {
         numerals = t .numerals;
-        holds = holds-append (key ++ separated vs) lineEnd (t .holds) (rw p at there);
+        holds = stands-append (key ++ separated vs) lineEnd (t .holds) (rw p at there);
         place = omega (arith, length-append (key ++ separated vs) lineEnd);
       }
 

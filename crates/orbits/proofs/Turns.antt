@@ -1,15 +1,15 @@
 -- A turn of each loop: what is left to do gives the same as before. Assumes nothing.
 use Prim.Native.Nat.{ℕ, suc, _+_, _-_, _≤_, _<_}
 use mathlib.Core.Path.{_≡_, sym, ap, _∙_}
-use mathlib.Core.Bool.{Bool, true, false}
+use mathlib.Core.Bool.{true, false}
 use mathlib.Core.List.{List, _++_}
 use native.Mathlib.Omega.{arith}
-use borrow.Author.Tests.{eq-eqb, ne-eqb, lt-ltb, le-ltb}
+use borrow.Author.Tests.{eq-eqb, ne-eqb}
 use lib.Dec.{leb}
 use lib.ListN.{getD, set, replicate, length-replicate, replicate-append-replicate}
 use lib.Seq.{set-at, append-snoc}
 use Rattle.orbits.specs.declared.Traced.{Traced}
-use Rattle.orbits.specs.Tables.{unnumberedBelow, walkFrom, traceFrom, permutesFrom}
+use Rattle.orbits.specs.Tables.{unnumberedBelow, walkFrom, traceFrom}
 
 marked-more : (e m : ℕ) → set {A = ℕ} (replicate e 512 ++ replicate (suc m) 0) e 512 ≡ replicate (e + 1) 512 ++ replicate m 0
 marked-more e m =
@@ -55,22 +55,3 @@ module _ (size e : ℕ) (step : List ℕ) (f : ℕ) (orbit : List ℕ) (all : Tr
     pub trace-old : (getD orbit e 0 ≡ 512 → ⊥) → traceFrom (size - (e + 1)) size step (e + 1) f orbit ≡ all
     unfolding traceFrom
     trace-old q = let z : size - e ≡ suc (size - (e + 1)) = omega arith in rw (z, ne-eqb (getD orbit e 0) 512 q) at rest
-
-module _ (size e : ℕ) (table : List ℕ) (seen : List Bool) (all : Bool) (rest : permutesFrom (size - e) size table e seen ≡ all) where
-  pub permutes-over : size ≤ e → true ≡ all
-  unfolding permutesFrom
-  permutes-over h = let z : size - e ≡ 0 = omega arith in rw z at rest
-
-  module _ (h : e < size) (to : ℕ) (entry : to ≡ getD table e 0) where
-    pub permutes-outside : size ≤ to → false ≡ all
-    unfolding permutesFrom
-    permutes-outside l = let z : size - e ≡ suc (size - (e + 1)) = omega arith in rw (z, ← entry, le-ltb to size l) at rest
-
-    module _ (l : to < size) where
-      pub permutes-twice : getD seen to false ≡ true → false ≡ all
-      unfolding permutesFrom
-      permutes-twice m = let z : size - e ≡ suc (size - (e + 1)) = omega arith in rw (z, ← entry, lt-ltb to size l, m) at rest
-
-      pub permutes-more : getD seen to false ≡ false → permutesFrom (size - (e + 1)) size table (e + 1) (set seen to true) ≡ all
-      unfolding permutesFrom
-      permutes-more m = let z : size - e ≡ suc (size - (e + 1)) = omega arith in rw (z, ← entry, lt-ltb to size l, m) at rest

@@ -1,5 +1,5 @@
 -- The walk round one orbit, and the orbits so far. Assumes nothing.
-use Prim.Native.Nat.{ℕ, zero, suc, _+_, _≤_, _<_}
+use Prim.Native.Nat.{ℕ, suc, _+_, _≤_, _<_}
 use mathlib.Core.Path.{_≡_, refl, sym, ap, _∙_}
 use mathlib.Core.Logic.{_⊎_, inl, inr, ⊎-elim, by-cases}
 use mathlib.Core.List.{List}
@@ -8,6 +8,7 @@ use native.Mathlib.Omega.{arith}
 use borrow.Author.Count.{below-more}
 use lib.ListN.{getD, set, length, length-set}
 use Rattle.counting.specs.Orbits.{Perm, iter, Reach}
+use Rattle.counting.proofs.Iterate.{around}
 use Rattle.counting.proofs.Reach.{iter-below, reach-below, reach-refl, reach-trans, reach-sym}
 use Rattle.counting.proofs.Orbits.{kept-reach}
 use Rattle.orbits.specs.Meaning.{entries, Lead}
@@ -49,14 +50,8 @@ pass {e = e} h p n = record {
 
 -- a walk that is back where it started has been at every element of the orbit
 module _ {φ : ℕ → ℕ} {orbit₀ orbit : List ℕ} {s f i : ℕ} (w : Walk φ orbit₀ orbit s f (suc i)) (round : iter φ (suc i) s ≡ s) where
-  been : (k : ℕ) → (j : ℕ) × (j < suc i) × (iter φ j s ≡ iter φ k s)
-  been zero = (zero, omega arith, refl)
-  been (suc k) = let (j, l, q) = been k in by-cases (ℕ-discrete j i)
-      (λ e. (zero, omega arith, sym round ∙ ap (λ x. φ (iter φ x s)) (sym e) ∙ ap φ q))
-      (λ e. (suc j, omega arith, ap φ q))
-
   pub walked-all : (d : ℕ) → Reach φ s d → getD orbit d 0 ≡ f
-  walked-all d (k, r) = let (j, l, q) = been k in ap (entries orbit) (sym (q ∙ r)) ∙ w .new j l
+  walked-all d (k, r) = let (j, l, q) = around φ s (suc i) (omega arith) round k in ap (entries orbit) (sym (q ∙ r)) ∙ w .new j l
 
 module _ {size : ℕ} {φ : ℕ → ℕ} (P : Perm size φ) (fits : size ≤ 512) where
   pub walk-on : {orbit₀ orbit : List ℕ} {s f i : ℕ} → s < size → Walk φ orbit₀ orbit s f i → Walk φ orbit₀ (set orbit (iter φ i s) f) s f (suc i)

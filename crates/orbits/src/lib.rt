@@ -1,7 +1,7 @@
-// The orbits of a permutation of numbers that is given as a table, and the check that a table is one.
+// The orbits of a permutation of numbers that is given as a table.
 ghost use mathlib.Core.Path.{_≡_};
 ghost use Prim.Native.Nat.{_<_, _≤_};
-ghost use Rattle.orbits.specs.Tables.{unnumberedBelow, traced, isPermutation};
+ghost use Rattle.orbits.specs.Tables.{unnumberedBelow, traced};
 use counting::wide;
 
 // The number of each element's orbit, and how many orbits there are.
@@ -62,27 +62,4 @@ pub fn trace(size: usize, step: &[u16; 512]) -> Traced
         e += 1;
     };
     Traced { count, orbit }
-}
-
-// Whether the table permutes the elements below `size`: there are at most 512, each one's entry is one of them, and none comes twice.
-pub fn permutes(size: usize, table: &[u16; 512]) -> bool
-    ensures { λ r. ⌜ r ≡ isPermutation size (now (table .entry)) ⌝ }
-{
-    if 512 < size {
-        return false;
-    }
-    let mut seen = [false; 512];
-    let mut e = 0;
-    while e < size {
-        let to = wide(table[e]);
-        if size <= to {
-            return false;
-        }
-        if seen[to] {
-            return false;
-        }
-        seen[to] = true;
-        e += 1;
-    }
-    true
 }

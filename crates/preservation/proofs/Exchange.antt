@@ -6,7 +6,7 @@ use mathlib.Core.Bool.{Bool, true, false, not}
 use native.Mathlib.Decide.{ℕ-discrete}
 use native.Mathlib.Omega.{arith}
 use Rattle.counting.specs.Orbits.{Bijection}
-use Rattle.plane.specs.Map.{Map, Plane}
+use Rattle.planarmap.specs.Map.{Map, Plane}
 use Rattle.surgery.specs.Edits.{Grown}
 use Rattle.surgery.specs.Renumber.{renumber, exchange}
 use Rattle.surgery.proofs.Renumber.{renumber-plane, exchange-bijection, exchange-first, exchange-second, exchange-other}
@@ -14,10 +14,9 @@ use Rattle.sheet.specs.declared.Sheet.{Sheet}
 use Rattle.clauses.specs.Darts.{tailDart, headDart, isTail, opposite}
 use Rattle.sheet.specs.Darts.{darts}
 use Rattle.sheet.specs.Sound.{Sound}
-use Rattle.soundness.specs.Maps.{mapOf}
+use Rattle.soundness.specs.Maps.{mapWith, mapOf}
 use Rattle.soundness.proofs.Darts.{dart, dart-kind, dart-edge, dart-below, each-dart, by-dart, dart-opposite}
 use Rattle.soundness.proofs.Plane.{plane-of}
-use Rattle.preservation.specs.Maps.{mapWith}
 
 -- the darts of the edges k and l change places
 unfoldable pub swap : ℕ → ℕ → ℕ → ℕ

@@ -3,13 +3,13 @@ use Prim.Native.Nat.{ℕ, _≤_, _<_}
 use mathlib.Core.Path.{_≡_, _∙_, ap}
 use mathlib.Core.Bool.{true, false}
 use native.Mathlib.Omega.{arith}
-use Rattle.plane.specs.Map.{Plane}
+use Rattle.planarmap.specs.Map.{Plane}
 use Rattle.sheet.specs.declared.Sheet.{Sheet}
 use Rattle.clauses.specs.Darts.{tailDart, opposite}
 use Rattle.sheet.specs.Darts.{tail, head, vertex}
 use Rattle.sheet.specs.Sound.{Joins, Unused, Sound}
+use Rattle.soundness.specs.Maps.{mapWith}
 use Rattle.soundness.proofs.Darts.{dart-kind, dart-below, dart-opposite, dart-vertex}
-use Rattle.preservation.specs.Maps.{mapWith}
 use Rattle.preservation.proofs.Maps.{plane-sound}
 
 module _ (s : Sheet) (row : ℕ → ℕ) (P : Plane (mapWith s row)) where
@@ -26,4 +26,4 @@ module _ (s : Sheet) (row : ℕ → ℕ) (P : Plane (mapWith s row)) where
       }
 
   pub fewer-sound : 2 ≤ s .vertices → s .vertices ≤ 128 → 2 ≤ s .edges → s .edges ≤ 256 → Unused s → Sound s
-  fewer-sound a b c d u = plane-sound s row (record { vertices-least = a; vertices-most = b; edges-least = c; edges-most = d; joins = plane-joins; unused = u }) P
+  fewer-sound a b c d u = plane-sound s row (record { limits = record { vertices-least = a; vertices-most = b; edges-least = c; edges-most = d }; joins = plane-joins; unused = u }) P

@@ -7,7 +7,7 @@ use native.Mathlib.Omega.{arith}
 use Rattle.counting.specs.Paths.{Circle}
 use Rattle.counting.proofs.Paths.{no-circle}
 use Rattle.counting.proofs.Iterate.{clash}
-use Rattle.plane.specs.Map.{Plane}
+use Rattle.planarmap.specs.Map.{Plane}
 use Rattle.surgery.specs.Edits.{Grown}
 use Rattle.surgery.specs.Statements.{Walks, Rises}
 use Rattle.sheet.specs.declared.Sheet.{Sheet}
@@ -15,9 +15,10 @@ use Rattle.clauses.specs.Darts.{headDart, isTail, opposite}
 use Rattle.sheet.specs.Darts.{tail, head, darts, vertex, next}
 use Rattle.sheet.specs.Sound.{Ring, Leads, Incoming, Outgoing, Sound}
 use Rattle.sheet.specs.Check.{face, faceCount}
+use Rattle.soundness.specs.Maps.{mapWith}
 use Rattle.soundness.proofs.Darts.{dart, dart-kind, dart-below, dart-is, dart-opposite, dart-vertex, edge-below}
 use Rattle.soundness.proofs.Faces.{walk-faces}
-use Rattle.preservation.specs.Maps.{mapWith, Framed}
+use Rattle.preservation.specs.Maps.{Framed}
 
 -- the faces of the map are the orbits of the walk
 pub walks-with : (s : Sheet) (row : ℕ → ℕ) → s .edges ≤ 256 → Walks (mapWith s row)
@@ -61,27 +62,21 @@ module _ (s : Sheet) (row : ℕ → ℕ) (f : Framed s) (P : Plane (mapWith s ro
 
   pub plane-sound : Sound s
   plane-sound = record {
-    vertices-least = f .vertices-least;
-    vertices-most = f .vertices-most;
-    edges-least = f .edges-least;
-    edges-most = f .edges-most;
+    limits = f .limits;
     joins = f .joins;
     rings = ring;
     unused = f .unused;
     root-tail = sym (dart-vertex s true 0) ∙ P .bipolar .root-tail;
     root-head = sym (ap (vertex s) (dart-opposite true 0) ∙ dart-vertex s false 0) ∙ P .bipolar .root-head;
     acyclic = no-circle row rises;
-    source = source;
-    other-sources = other-sources;
-    sink = sink;
-    other-sinks = other-sinks;
+    poles = record { source = source; other-sources = other-sources; sink = sink; other-sinks = other-sinks };
     euler = record { faces = faceCount s; face = face s; numbered = P .bipolar .walks; two = P .euler };
   }
 
 -- So an edit that makes a plane map with rows in which every edge rises makes a sound sheet.
 pub kept-sound : (s : Sheet) → Framed s → ((row : ℕ → ℕ) → Walks (mapWith s row) → Rises (mapWith s row) row → Plane (mapWith s row))
     → ((row : ℕ → ℕ) × Rises (mapWith s row) row) → Sound s
-kept-sound s f plane (row, rises) = plane-sound s row f (plane row (walks-with s row (f .edges-most)) rises)
+kept-sound s f plane (row, rises) = plane-sound s row f (plane row (walks-with s row (f .limits .edges-most)) rises)
 
 -- a sheet with one edge more: the map's new darts
 pub grown : (s s′ : Sheet) (r r′ : ℕ → ℕ) → s′ .edges ≡ s .edges + 1 → Grown (mapWith s r) (mapWith s′ r′)

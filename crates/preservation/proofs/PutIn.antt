@@ -18,7 +18,7 @@ use Rattle.clauses.specs.Darts.{tailDart, headDart, isTail, opposite}
 use Rattle.sheet.specs.Darts.{Sized, tail, head, darts, vertex, next}
 use Rattle.sheet.specs.Sound.{Joins, Unused, Sound}
 use Rattle.sheet.specs.Check.{sound, row}
-use Rattle.soundness.specs.Maps.{mapOf}
+use Rattle.soundness.specs.Maps.{mapWith, mapOf}
 use Rattle.soundness.proofs.Darts.{dart, dart-kind, dart-below, by-dart, dart-opposite, dart-vertex}
 use Rattle.soundness.proofs.Plane.{plane-of}
 use Rattle.soundness.proofs.Law.{sound-law}
@@ -28,7 +28,7 @@ use Rattle.counting.proofs.Iterate.{not-false}
 use Rattle.edit.specs.Calls.{noEdge, putInAnswer}
 use Rattle.edit.specs.Changes.{renamed, replaceDart, putIn}
 use Rattle.preservation.specs.Laws.{Put-In-Whole}
-use Rattle.preservation.specs.Maps.{mapWith, Framed}
+use Rattle.preservation.specs.Maps.{Framed}
 use Rattle.preservation.proofs.Maps.{kept-sound, grown}
 use Rattle.answers.proofs.Refusals.{passed}
 use Rattle.preservation.proofs.Accepted.{neither, other-number, not-at-most}
@@ -123,10 +123,7 @@ module _ (s : Sheet) (z : Sized s) (S : Sound s) (k : ℕ) (k-in : k < s .edges)
 
   framed : Framed s′
   framed = record {
-    vertices-least = omega (arith, vertices-more, S .vertices-least);
-    vertices-most = omega (arith, vertices-more);
-    edges-least = omega (arith, edges-more, S .edges-least);
-    edges-most = omega (arith, edges-more);
+    limits = record { vertices-least = omega (arith, vertices-more, S .limits .vertices-least); vertices-most = omega (arith, vertices-more); edges-least = omega (arith, edges-more, S .limits .edges-least); edges-most = omega (arith, edges-more) };
     joins = joins;
     unused = record { tails = unused-tails; heads = unused-heads; nexts = unused-nexts };
   }
@@ -222,8 +219,8 @@ put-in-given s k z e =
       is-sound = S;
       k-in = not-at-most (s .edges) k (b .0);
       k-other = other-number k 0 (c .0);
-      n-room = omega (arith, S .vertices-most, other-number (s .vertices) 128 (d .0));
-      m-room = omega (arith, S .edges-most, other-number (s .edges) 256 (d .1));
+      n-room = omega (arith, S .limits .vertices-most, other-number (s .vertices) 128 (d .0));
+      m-room = omega (arith, S .limits .edges-most, other-number (s .edges) 256 (d .1));
     }
 
 pub put-in-whole : Put-In-Whole

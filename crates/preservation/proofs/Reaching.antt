@@ -31,7 +31,7 @@ none (suc n) (suc v) = none n v
 
 module _ (s : Sheet) (S : Sound s) where
   head-in : (k : ℕ) → k < s .edges → head s k < 128
-  head-in k h = omega (arith, S .joins k h .head-in, S .vertices-most)
+  head-in k h = omega (arith, S .joins k h .head-in, S .limits .vertices-most)
 
   -- one edge: its head is marked where its tail is
   passing : ℕ → List Bool → List Bool
@@ -139,5 +139,5 @@ leads-to-law s S b a b-in a-in = (
 )
   where
     first : Near s S b 0 (start s S b)
-    first v i h here = start-here s S b (omega (arith, S .vertices-most))
+    first v i h here = start-here s S b (omega (arith, S .limits .vertices-most))
     first v i h (more p t) = absurd (omega arith)

@@ -22,7 +22,7 @@ use Rattle.clauses.specs.Darts.{tailDart, headDart, isTail, opposite}
 use Rattle.sheet.specs.Darts.{Sized, tail, head, darts, vertex, touches, dartAt, next}
 use Rattle.sheet.specs.Sound.{Joins, Unused, Leads, Sound}
 use Rattle.sheet.specs.Check.{sound, row, face}
-use Rattle.soundness.specs.Maps.{mapOf}
+use Rattle.soundness.specs.Maps.{mapWith, mapOf}
 use Rattle.soundness.proofs.Darts.{dart, dart-kind, dart-below, by-dart, dart-opposite, dart-vertex}
 use Rattle.soundness.proofs.Ends.{at-below, at-end}
 use Rattle.soundness.proofs.Plane.{plane-of}
@@ -31,7 +31,7 @@ use Rattle.edit.specs.Reaching.{leadsTo}
 use Rattle.edit.specs.Changes.{insertDart, runEdge}
 use Rattle.edit.specs.Calls.{noEdge, noVertex, cornerFace, runAnswer}
 use Rattle.preservation.specs.Laws.{Run-Whole}
-use Rattle.preservation.specs.Maps.{mapWith, Framed}
+use Rattle.preservation.specs.Maps.{Framed}
 use Rattle.preservation.proofs.Maps.{kept-sound, grown}
 use Rattle.preservation.proofs.Reaching.{leads-to-law}
 use Rattle.answers.proofs.Refusals.{passed}
@@ -153,10 +153,7 @@ module _ (s : Sheet) (z : Sized s) (S : Sound s) (a p b q : ℕ) (g : Given s a 
 
   framed : Framed s′
   framed = record {
-    vertices-least = omega (arith, vertices-same, S .vertices-least);
-    vertices-most = omega (arith, vertices-same, S .vertices-most);
-    edges-least = omega (arith, edges-more, S .edges-least);
-    edges-most = omega (arith, edges-more, room);
+    limits = record { vertices-least = omega (arith, vertices-same, S .limits .vertices-least); vertices-most = omega (arith, vertices-same, S .limits .vertices-most); edges-least = omega (arith, edges-more, S .limits .edges-least); edges-most = omega (arith, edges-more, room) };
     joins = joins;
     unused = record { tails = unused-tails; heads = unused-heads; nexts = unused-nexts };
   }
@@ -263,6 +260,6 @@ run-whole s a p b q z e =
       one-face = eqb-true (cornerFace s a p) (cornerFace s b q) (not-false (eqb (cornerFace s a p) (cornerFace s b q)) kf);
       other = other-number a b le;
       no-path = ll;
-      room = omega (arith, S .edges-most, other-number (s .edges) 256 (o .0));
+      room = omega (arith, S .limits .edges-most, other-number (s .edges) 256 (o .0));
     } in
     (run-sound s z S a p b q g, run-sized s z S a p b q g)

@@ -10,7 +10,7 @@ use lib.ListN.{getD, length}
 use borrow.Author.Tests.{eqb-true}
 use Rattle.counting.proofs.Iterate.{either, not-false}
 use Rattle.counting.proofs.Counts.{eqb-same}
-use Rattle.plane.specs.Map.{Map, Bipolar, Plane}
+use Rattle.planarmap.specs.Map.{Map, Bipolar, Plane}
 use Rattle.surgery.specs.Edits.{Deleted}
 use Rattle.surgery.specs.Statements.{Rises}
 use Rattle.surgery.proofs.Delete.{deleted-plane, deleted-rises}
@@ -19,7 +19,7 @@ use Rattle.clauses.specs.Darts.{tailDart, headDart, isTail}
 use Rattle.sheet.specs.Darts.{Sized, tail, head, darts, vertex, next}
 use Rattle.sheet.specs.Sound.{Unused, Sound}
 use Rattle.sheet.specs.Check.{sound, row}
-use Rattle.soundness.specs.Maps.{mapOf}
+use Rattle.soundness.specs.Maps.{mapWith, mapOf}
 use Rattle.soundness.proofs.Darts.{dart, dart-kind, dart-below, dart-vertex}
 use Rattle.soundness.proofs.Plane.{plane-of}
 use Rattle.soundness.proofs.Law.{sound-law}
@@ -28,7 +28,6 @@ use Rattle.answers.specs.Answers.{refusalNumber}
 use Rattle.edit.specs.Changes.{renamed, removeDart, lastEdgeTo, takeOutEdge}
 use Rattle.edit.specs.Calls.{noEdge, outDegree, inDegree, takeOutEdgeAnswer}
 use Rattle.preservation.specs.Laws.{Take-Out-Edge-Whole}
-use Rattle.preservation.specs.Maps.{mapWith}
 use Rattle.preservation.proofs.Maps.{walks-with}
 use Rattle.preservation.proofs.Fewer.{fewer-sound}
 use Rattle.answers.proofs.Refusals.{passed}
@@ -60,10 +59,10 @@ module _ (s : Sheet) (z : Sized s) (S : Sound s) (k : ℕ) (k-in : k < s .edges)
   t-sized = record { tails = z .tails; heads = z .heads; nexts = remove-size (headDart k) nexts₁ ∙ nexts₁-size }
 
   first-at : (d : ℕ) → d < darts s → getD nexts₁ d 0 ≡ renamed (tailDart k) (next s (tailDart k)) (next s d)
-  first-at d h = remove-at (tailDart k) (s .nexts) d (omega (arith, z .nexts, S .edges-most))
+  first-at d h = remove-at (tailDart k) (s .nexts) d (omega (arith, z .nexts, S .limits .edges-most))
 
   next-at : (d : ℕ) → d < darts s → next t d ≡ renamed (headDart k) (getD nexts₁ (headDart k) 0) (getD nexts₁ d 0)
-  next-at d h = remove-at (headDart k) nexts₁ d (omega (arith, nexts₁-size, S .edges-most))
+  next-at d h = remove-at (headDart k) nexts₁ d (omega (arith, nexts₁-size, S .limits .edges-most))
 
   same-vertex : (d : ℕ) → vertex t d ≡ vertex s d
   unfolding vertex
@@ -106,7 +105,7 @@ module _ (s : Sheet) (z : Sized s) (S : Sound s) (k : ℕ) (k-in : k < s .edges)
   l = s .edges - 1
 
   edges-fewer : s′ .edges ≡ l
-  edges-fewer = last-edges t t-sized (S .edges-most) k k-in
+  edges-fewer = last-edges t t-sized (S .limits .edges-most) k k-in
 
   l-in : l < s .edges
   l-in = omega arith
@@ -115,7 +114,7 @@ module _ (s : Sheet) (z : Sized s) (S : Sound s) (k : ℕ) (k-in : k < s .edges)
   last = omega arith
 
   other-next : (d : ℕ) → d < 2 * l → ((b : Bool) → next t (swap k l d) ≢ dart b k) → next s′ d ≡ swap k l (next t (swap k l d))
-  other-next d h n = last-next t t-sized (S .edges-most) k k-in d h (n true) (n false)
+  other-next d h n = last-next t t-sized (S .limits .edges-most) k k-in d h (n true) (n false)
 
   over : (b : Bool) (d : ℕ) → d < 2 * l → swap k l (next s (swap k l d)) ≡ dart b l → next s′ d ≡ swap k l (next s (swap k l (dart b l)))
   over b d h q =
@@ -157,15 +156,15 @@ module _ (s : Sheet) (z : Sized s) (S : Sound s) (k : ℕ) (k-in : k < s .edges)
         let at-tail : darts s′ ≡ tailDart l = omega arith in
         let at-head : suc (darts s′) ≡ headDart l = omega arith in
         record {
-          grown = exchanged-grown s k l (λ v. v) k-in l-in s′ r (omega arith) k-other (λ q. omega (arith, S .edges-least));
-          vertices = last-vertices t t-sized (S .edges-most) k k-in;
-          root-below = omega (arith, S .edges-least);
+          grown = exchanged-grown s k l (λ v. v) k-in l-in s′ r (omega arith) k-other (λ q. omega (arith, S .limits .edges-least));
+          vertices = last-vertices t t-sized (S .limits .edges-most) k k-in;
+          root-below = omega (arith, S .limits .edges-least);
           next = record {
             over-x = λ {d} h q. over true d (omega arith) (q ∙ at-tail) ∙ ap (M .next) (sym at-tail);
             over-y = λ {d} h q. over false d (omega arith) (q ∙ at-head) ∙ ap (M .next) (sym at-head);
             rest = λ {d} h q. rest d (omega arith) (omega arith);
           };
-          vertex = λ {d} h. last-vertex t t-sized (S .edges-most) k k-in d (omega arith) ∙ same-vertex (swap k l d);
+          vertex = λ {d} h. last-vertex t t-sized (S .limits .edges-most) k k-in d (omega arith) ∙ same-vertex (swap k l d);
           other-out = let (d, g, v, o) = other true in (d, omega arith, v ∙ ap (M .vertex) (sym at-tail), o);
           other-in = let (d, g, v, o) = other false in (d, omega arith, v ∙ ap (M .vertex) (sym at-head), o);
         }
@@ -186,13 +185,13 @@ module _ (s : Sheet) (z : Sized s) (S : Sound s) (k : ℕ) (k-in : k < s .edges)
     deleted-sound : Sound s′
     deleted-sound =
         let e = edges-fewer in
-        let v = last-vertices t t-sized (S .edges-most) k k-in in
-        fewer-sound s′ (row s) (deleted-plane P (deleted (row s)) (walks-with s′ (row s) (omega (arith, S .edges-most))) rises)
-        (omega (arith, S .vertices-least)) (omega (arith, S .vertices-most)) (omega (arith, S .edges-least)) (omega (arith, S .edges-most))
-        (last-unused t t-sized (S .edges-most) k k-in (S .edges-least) t-unused)
+        let v = last-vertices t t-sized (S .limits .edges-most) k k-in in
+        fewer-sound s′ (row s) (deleted-plane P (deleted (row s)) (walks-with s′ (row s) (omega (arith, S .limits .edges-most))) rises)
+        (omega (arith, S .limits .vertices-least)) (omega (arith, S .limits .vertices-most)) (omega (arith, S .limits .edges-least)) (omega (arith, S .limits .edges-most))
+        (last-unused t t-sized (S .limits .edges-most) k k-in (S .limits .edges-least) t-unused)
 
   deleted-sized : Sized s′
-  deleted-sized = last-sized t t-sized (S .edges-most) k k-in
+  deleted-sized = last-sized t t-sized (S .limits .edges-most) k k-in
 
 -- an accepted call was not refused for anything
 pub take-out-edge-whole : Take-Out-Edge-Whole

@@ -11,7 +11,7 @@ use lib.Seq.{getD-set-same, getD-set-other}
 use borrow.Author.Tests.{eqb-true, eq-eqb}
 use Rattle.counting.specs.Below.{lowestBelow}
 use Rattle.counting.proofs.Iterate.{either, not-false}
-use Rattle.plane.specs.Map.{Map, Bipolar, Plane}
+use Rattle.planarmap.specs.Map.{Map, Bipolar, Plane}
 use Rattle.surgery.specs.Edits.{Smoothed}
 use Rattle.surgery.specs.Renumber.{exchange}
 use Rattle.surgery.specs.Statements.{Rises}
@@ -23,7 +23,7 @@ use Rattle.clauses.specs.Darts.{tailDart, headDart, isTail}
 use Rattle.sheet.specs.Darts.{Sized, tail, head, darts, vertex, next}
 use Rattle.sheet.specs.Sound.{Unused, Sound}
 use Rattle.sheet.specs.Check.{sound, row}
-use Rattle.soundness.specs.Maps.{mapOf}
+use Rattle.soundness.specs.Maps.{mapWith, mapOf}
 use Rattle.soundness.proofs.Darts.{dart, dart-kind, dart-below, each-dart, by-dart, dart-opposite, dart-vertex}
 use Rattle.soundness.proofs.Plane.{plane-of}
 use Rattle.soundness.proofs.Law.{sound-law}
@@ -32,7 +32,6 @@ use Rattle.answers.specs.Answers.{refusalNumber}
 use Rattle.edit.specs.Changes.{renamed, replaceDart, lastEdgeTo, lastVertexTo, incomingEdge, outgoingEdge, takeOutVertex}
 use Rattle.edit.specs.Calls.{noVertex, outDegree, inDegree, takeOutVertexAnswer}
 use Rattle.preservation.specs.Laws.{Take-Out-Vertex-Whole}
-use Rattle.preservation.specs.Maps.{mapWith}
 use Rattle.preservation.proofs.Maps.{walks-with}
 use Rattle.preservation.proofs.Fewer.{fewer-sound}
 use Rattle.answers.proofs.Refusals.{passed}
@@ -139,7 +138,7 @@ module _ (s : Sheet) (z : Sized s) (S : Sound s) (v : ℕ) (v-in : v < s .vertic
   }
 
   t-head : head t i ≡ head s o
-  t-head = getD-set-same (s .heads) i (head s o) 0 (omega (arith, z .heads, i-in, S .edges-most))
+  t-head = getD-set-same (s .heads) i (head s o) 0 (omega (arith, z .heads, i-in, S .limits .edges-most))
 
   t-head-rest : (j : ℕ) → j ≢ i → head t j ≡ head s j
   t-head-rest j n = getD-set-other (s .heads) i j (head s o) 0 n
@@ -156,11 +155,11 @@ module _ (s : Sheet) (z : Sized s) (S : Sound s) (v : ℕ) (v-in : v < s .vertic
 
   t-next : next t (headDart i) ≡ next s (headDart o)
   t-next =
-      replace-new (headDart o) (headDart i) (s .nexts) (omega (arith, z .nexts, o-in, S .edges-most)) (omega (arith, z .nexts, i-in, S .edges-most))
+      replace-new (headDart o) (headDart i) (s .nexts) (omega (arith, z .nexts, o-in, S .limits .edges-most)) (omega (arith, z .nexts, i-in, S .limits .edges-most))
       ∙ renamed-other (headDart o) (headDart i) (next s (headDart o)) next-head
 
   t-next-at : (d : ℕ) → d < darts s → d ≢ headDart i → next t d ≡ renamed (headDart o) (headDart i) (next s d)
-  t-next-at d h n = replace-at (headDart o) (headDart i) (s .nexts) d n (omega (arith, z .nexts, S .edges-most))
+  t-next-at d h n = replace-at (headDart o) (headDart i) (s .nexts) d n (omega (arith, z .nexts, S .limits .edges-most))
 
   t-next-before : (d : ℕ) → d < darts s → d ≢ headDart i → next s d ≡ headDart o → next t d ≡ headDart i
   t-next-before d h n e = t-next-at d h n ∙ ap (renamed (headDart o) (headDart i)) e ∙ renamed-old (headDart o) (headDart i)
@@ -195,13 +194,13 @@ module _ (s : Sheet) (z : Sized s) (S : Sound s) (v : ℕ) (v-in : v < s .vertic
   last = omega (arith, three-edges)
 
   s₁-edges : s₁ .edges ≡ l
-  s₁-edges = last-edges t t-sized (S .edges-most) o o-in
+  s₁-edges = last-edges t t-sized (S .limits .edges-most) o o-in
 
   s₁-vertices : s₁ .vertices ≡ s .vertices
-  s₁-vertices = last-vertices t t-sized (S .edges-most) o o-in
+  s₁-vertices = last-vertices t t-sized (S .limits .edges-most) o o-in
 
   s₁-sized : Sized s₁
-  s₁-sized = last-sized t t-sized (S .edges-most) o o-in
+  s₁-sized = last-sized t t-sized (S .limits .edges-most) o o-in
 
   edges-fewer : s′ .edges ≡ l
   edges-fewer = named-edges s₁ s₁-sized v ∙ s₁-edges
@@ -213,7 +212,7 @@ module _ (s : Sheet) (z : Sized s) (S : Sound s) (v : ℕ) (v-in : v < s .vertic
   smoothed-sized = named-sized s₁ s₁-sized v
 
   unused : Unused s′
-  unused = named-unused s₁ s₁-sized v (omega (arith, s₁-vertices)) (last-unused t t-sized (S .edges-most) o o-in (S .edges-least) t-unused)
+  unused = named-unused s₁ s₁-sized v (omega (arith, s₁-vertices)) (last-unused t t-sized (S .limits .edges-most) o o-in (S .limits .edges-least) t-unused)
 
   -- vertices
   abbrev ρ : ℕ → ℕ
@@ -226,14 +225,14 @@ module _ (s : Sheet) (z : Sized s) (S : Sound s) (v : ℕ) (v-in : v < s .vertic
 
   vertex-at : (d : ℕ) → d < 2 * l → vertex t (swap o l d) ≢ v → vertex s′ d ≡ ρ (vertex t (swap o l d))
   vertex-at d h n =
-      named-vertex s₁ s₁-sized v (omega (arith, s₁-edges, S .edges-most)) d (omega (arith, s₁-edges))
+      named-vertex s₁ s₁-sized v (omega (arith, s₁-edges, S .limits .edges-most)) d (omega (arith, s₁-edges))
       ∙ ap (λ x. renamed (x - 1) v (vertex s₁ d)) s₁-vertices
-      ∙ ap (renamed w v) (last-vertex t t-sized (S .edges-most) o o-in d h)
+      ∙ ap (renamed w v) (last-vertex t t-sized (S .limits .edges-most) o o-in d h)
       ∙ renamed-vertex (vertex t (swap o l d)) n
 
   -- next darts
   next-at : (d : ℕ) → d < 2 * l → next t (swap o l d) ≢ tailDart o → next t (swap o l d) ≢ headDart o → next s′ d ≡ swap o l (next t (swap o l d))
-  next-at d h a c = named-next s₁ s₁-sized v d ∙ last-next t t-sized (S .edges-most) o o-in d h a c
+  next-at d h a c = named-next s₁ s₁-sized v d ∙ last-next t t-sized (S .limits .edges-most) o o-in d h a c
 
   -- the edit of the map
   abbrev M : Map
@@ -314,8 +313,8 @@ module _ (s : Sheet) (z : Sized s) (S : Sound s) (v : ℕ) (v-in : v < s .vertic
   smoothed-sound =
       let e = edges-fewer in
       let f = vertices-fewer in
-      fewer-sound s′ rows (smoothed-plane P (smoothed rows) (walks-with s′ rows (omega (arith, S .edges-most))) rises)
-      (omega arith) (omega (arith, S .vertices-most)) (omega (arith, three-edges)) (omega (arith, S .edges-most)) unused
+      fewer-sound s′ rows (smoothed-plane P (smoothed rows) (walks-with s′ rows (omega (arith, S .limits .edges-most))) rises)
+      (omega arith) (omega (arith, S .limits .vertices-most)) (omega (arith, three-edges)) (omega (arith, S .limits .edges-most)) unused
 
 -- an accepted call was not refused for anything
 pub take-out-vertex-whole : Take-Out-Vertex-Whole

@@ -11,10 +11,11 @@ use lib.Dec.{eqb}
 use lib.ListN.{getD, length}
 use Rattle.counting.specs.Counts.{bit}
 use Rattle.counting.proofs.Iterate.{by-bool, clash}
+use Rattle.counting.proofs.Pigeonhole.{pigeonhole}
 use Rattle.soundness.proofs.Tests.{Says, lt-says, eq-says, reworded, and-says, all-says}
 use Rattle.sheet.specs.declared.Sheet.{Sheet}
 use Rattle.sheet.specs.Darts.{touches}
-use Rattle.format.specs.Rings.{occurrences, allIn, isRotation}
+use Rattle.load.specs.Rings.{occurrences, allIn, isRotation}
 
 -- no two entries are equal
 pub record Distinct (ws : List ℕ) : Type 0 where
@@ -109,3 +110,11 @@ around-law s v ws =
         missing k t = by-cases (decLt 0 (occurrences k ws))
             (λ l. let (i, h, e) = entry k ws l in clash (ap (λ w. touches s w v) (sym e) ∙ A .touching i h) t)
             (λ l. omega (arith, ap bit t))
+
+-- two lists of them have one length
+around-fits : {s : Sheet} {v : ℕ} {ws us : List ℕ} → Around s v ws → Around s v us → length ws ≤ length us
+around-fits {ws = ws} {us} A B = pigeonhole (length ws) (length us) (λ i j. getD us j 0 ≡ getD ws i 0)
+    (λ i h. B .all (getD ws i 0) (A .inside i h) (A .touching i h)) (λ i j k h l p q. A .distinct .same i j h l (sym p ∙ q))
+
+pub around-length : {s : Sheet} {v : ℕ} {ws us : List ℕ} → Around s v ws → Around s v us → length ws ≡ length us
+around-length A B = omega (arith, around-fits A B, around-fits B A)

@@ -6,10 +6,11 @@ use Prim.Native.Nat.{ℕ, zero, suc, _/_, _<_}
 use native.Mathlib.Omega.{arith}
 use lib.ListN.{getD, length, set, length-set}
 use lib.Seq.{getD-set-same, getD-set-other, lt-length-set}
+use Rattle.clauses.specs.Darts.{dartOf}
 use Rattle.sheet.specs.declared.Sheet.{Sheet}
 use Rattle.sheet.specs.Darts.{dartAt}
-use Rattle.format.specs.Rings.{linkFrom}
-use Rattle.format.specs.Load.{withNexts}
+use Rattle.load.specs.Rings.{linkFrom}
+use Rattle.load.specs.Load.{withNexts}
 use Rattle.roundtrip.proofs.Around.{Distinct, distinct-tail}
 use Rattle.soundness.proofs.Ends.{at-edge}
 
@@ -22,7 +23,7 @@ module _ (s : Sheet) (v first : ℕ) where
 
   -- the next-ends of the sheet itself do not matter
   pub link-anew : (other ws nexts : List ℕ) → linkFrom (withNexts s other) v first ws nexts ≡ linkFrom s v first ws nexts
-  unfolding linkFrom withNexts dartAt
+  unfolding linkFrom withNexts dartOf
   link-anew other [] nexts = refl
   link-anew other (w ∷ []) nexts = refl
   link-anew other (w ∷ x ∷ ws) nexts = link-anew other (x ∷ ws) (set nexts (dartAt s w v) (dartAt s x v))

@@ -9,6 +9,7 @@ use native.Mathlib.Omega.{arith}
 use borrow.Author.Tests.{eqb-true, eqb-false, eq-eqb, ne-eqb}
 use lib.Dec.{eqb}
 use lib.ListN.{getD, length}
+use Rattle.clauses.specs.Darts.{touchesOf}
 use Rattle.counting.specs.Below.{lowestBelow}
 use Rattle.counting.specs.Orbits.{iter}
 use Rattle.counting.proofs.Iterate.{clash, iter-shift, iter-keeps}
@@ -21,8 +22,8 @@ use Rattle.soundness.proofs.Tests.{Says, eq-says, or-says}
 use Rattle.soundness.proofs.Darts.{edge-below}
 use Rattle.soundness.proofs.Rings.{Rotation}
 use Rattle.soundness.proofs.Law.{rotation-of}
-use Rattle.format.specs.Rings.{linkRing}
-use Rattle.write.specs.Rings.{ringFrom, rotation}
+use Rattle.load.specs.Rings.{linkRing}
+use Rattle.writesheet.specs.Rings.{ringFrom, rotation}
 use Rattle.roundtrip.proofs.Around.{Around}
 use Rattle.soundness.proofs.Ends.{EndAt, at-edge, at-below, at-end, end-touches, end-at}
 use Rattle.roundtrip.proofs.Linking.{link-at}
@@ -112,7 +113,7 @@ module _ (s : Sheet) where
     abbrev end : ℕ → ℕ
     end i = iter (next s) i start
 
-    end-in : (i : ℕ) → EndAt s v (end i)
+    pub end-in : (i : ℕ) → EndAt s v (iter (next s) i start)
     end-in i = iter-keeps (next s) (EndAt s v) (λ x e. record { below = R .perm .below x (e .below); here = R .keeps x (e .below) ∙ e .here }) i start from
 
     entry-end : (n i : ℕ) → i < n → dartAt s (getD (steps n start) i 0) v ≡ end i
@@ -171,23 +172,42 @@ pub record Rotated (s : Sheet) (v : ℕ) (ws : List ℕ) : Type 0 where
   pub around : Around s v ws
   pub links : (nexts : List ℕ) → darts s ≤ length nexts → (d : ℕ) → EndAt s v d → getD (linkRing s v ws nexts) d 0 ≡ next s d
 
+-- begun at its end `start`
+pub record Begun (s : Sheet) (v start : ℕ) (ws : List ℕ) : Type 0 where
+  pub from : EndAt s v start
+  pub rotates : Rotated s v ws
+  pub entries : (i : ℕ) → i < length ws → getD ws i 0 ≡ iter (next s) i start / 2
+  pub again : iter (next s) (length ws) start ≡ start
+
 module _ (s : Sheet) (S : Sound s) where
+  pub ring-begun : (v start : ℕ) → EndAt s v start → Begun s v start (ringFrom (darts s) s start start)
+  ring-begun v start from =
+      let n : ℕ = L s S v start from in
+      let size = steps-length s n start in
+      subst (Begun s v start) (sym (ring-is s S v start from))
+      (record {
+        from = from;
+        rotates = record { some = omega arith; around = ring-around s S v start from; links = ring-links s S v start from };
+        entries = λ i h. steps-entry s n start i (omega arith);
+        again = ap (λ k. iter (next s) k start) size ∙ round s S v start from .returned;
+      })
+
   -- every bar has a wire
   touched : (v : ℕ) → v < s .vertices → (k : ℕ) × (k < s .edges) × (touches s k v ≡ true)
-  unfolding touches
+  unfolding touchesOf
   touched v h = by-cases (ℕ-discrete v 0)
-      (λ e. (0, omega (arith, S .edges-least), says 0 .1 (inl (S .root-tail ∙ sym e))))
-      (λ n. let (k, l, e) = S .other-sources v h n in (k, l, says k .1 (inr e)))
+      (λ e. (0, omega (arith, S .limits .edges-least), says 0 .1 (inl (S .root-tail ∙ sym e))))
+      (λ n. let (k, l, e) = S .poles .other-sources v h n in (k, l, says k .1 (inr e)))
     where
       says : (k : ℕ) → Says (touches s k v) ((tail s k ≡ v) ⊎ (head s k ≡ v))
       says k = or-says (eq-says (tail s k) v) (eq-says (head s k) v)
 
-  pub rotated : (v : ℕ) → v < s .vertices → Rotated s v (rotation s v)
+  pub rotation-begun : (v : ℕ) → v < s .vertices → (start : ℕ) × Begun s v start (rotation s v)
   unfolding rotation
-  rotated v h =
+  rotation-begun v h =
       let (k, l, t) = touched v h in
       let (below, touching) = lowest-passes (λ k. touches s k v) (s .edges) (some-lowest (λ k. touches s k v) (s .edges) k l t) in
-      let start : ℕ = dartAt s (lowestBelow (λ k. touches s k v) (s .edges)) v in
-      let from : EndAt s v start = at-end s (lowestBelow (λ k. touches s k v) (s .edges)) v below touching in
-      subst (Rotated s v) (sym (ring-is s S v start from))
-      (record { some = omega (arith, steps-length s (L s S v start from) start); around = ring-around s S v start from; links = ring-links s S v start from })
+      (_, ring-begun v _ (at-end s (lowestBelow (λ k. touches s k v) (s .edges)) v below touching))
+
+  pub rotated : (v : ℕ) → v < s .vertices → Rotated s v (rotation s v)
+  rotated v h = let (start, B) = rotation-begun v h in B .rotates

@@ -9,14 +9,16 @@ use native.Mathlib.Omega.{arith}
 use borrow.Author.Tests.{lt-ltb, le-leb, ne-eqb}
 use lib.ListN.{getD, length, set, length-append}
 use lib.Seq.{ext-getD}
+use Rattle.clauses.specs.Darts.{touchesOf}
 use Rattle.counting.specs.Below.{joinBelow}
 use Rattle.text.specs.Reading.{Listed, listed, lineAt}
 use Rattle.text.specs.Shapes.{withOne, withTwo, withSome}
 use Rattle.text.specs.Written.{line}
-use Rattle.layout.specs.Layout.{Holds, Numerals}
-use Rattle.layout.proofs.Holding.{holds-left, holds-right}
+use Rattle.layout.specs.Layout.{Stands, Numerals}
+use Rattle.layout.proofs.Standing.{stands-left, stands-right}
 use Rattle.layout.proofs.Laws.{layout}
 use Rattle.sheet.specs.declared.Sheet.{Sheet}
+use Rattle.answers.specs.declared.Answer.the-variants.{Accepted}
 use Rattle.answers.specs.Answers.{refusalNumber}
 use Rattle.answers.specs.Refusals.{isAccepted}
 use Rattle.sheet.specs.Darts.{Sized, tail, head, darts, touches, vertex, next}
@@ -25,11 +27,11 @@ use Rattle.soundness.proofs.Rings.{vertex-below}
 use Rattle.soundness.proofs.Judge.{passed-says, judge-law}
 use Rattle.soundness.proofs.Law.{sound-law}
 use Rattle.text.specs.Keys.{barsKey, wiresKey, wireKey, aroundKey}
-use Rattle.format.specs.Rings.{isRotation, linkRing}
-use Rattle.write.specs.Rings.{rotation}
-use Rattle.format.specs.Load.{Parsed, emptySheet, withEdge, withNexts, judged, ringLines, edgeLines, withCount, parse, loaded}
-use Rattle.format.specs.Load.Parsed.{parsed}
-use Rattle.write.specs.Write.{sheetText}
+use Rattle.load.specs.Rings.{isRotation, linkRing}
+use Rattle.writesheet.specs.Rings.{rotation}
+use Rattle.load.specs.Load.{Parsed, emptySheet, withEdge, withNexts, judged, ringLines, edgeLines, withCount, parse, loaded, load}
+use Rattle.load.specs.Load.Parsed.{parsed}
+use Rattle.writesheet.specs.Write.{sheetLines, sheetText}
 use Rattle.roundtrip.specs.Laws.{Round-Trip}
 use Rattle.roundtrip.proofs.Entries.{zeros, zeros-length, zeros-each, Filled, filled-none, filled-more, filled-all}
 use Rattle.roundtrip.proofs.Around.{around-law}
@@ -37,19 +39,19 @@ use Rattle.soundness.proofs.Ends.{at-below}
 use Rattle.roundtrip.proofs.Linking.{link-length, link-anew, link-other}
 use Rattle.roundtrip.proofs.Laid.{link-leaves}
 use Rattle.roundtrip.proofs.Rotations.{Rotated, rotated}
-use Rattle.roundtrip.proofs.Standing.{holds-front, joined-length, holds-joined, one-number, two-numbers}
+use Rattle.roundtrip.proofs.Standing.{stands-front, joined-length, stands-joined, one-number, two-numbers}
 
 -- the lines of a wire and of a bar
 abbrev edgeText : Sheet → ℕ → List ℕ
 edgeText s k = line wireKey (tail s k ∷ head s k ∷ [])
 
-abbrev ringText : Sheet → ℕ → List ℕ
-ringText s v = line aroundKey (rotation s v)
+abbrev ringText : (ℕ → List ℕ) → ℕ → List ℕ
+ringText ring v = line aroundKey (ring v)
 
 -- one line of a ring
 ring-step : (text : List ℕ) (s : Sheet) (nexts ws : List ℕ) (r v at after : ℕ) → lineAt aroundKey text at ≡ listed ws after → isRotation s v ws ≡ true
     → ringLines (suc r) text (withNexts s nexts) v at ≡ ringLines r text (withNexts s (linkRing s v ws nexts)) (v + 1) after
-unfolding ringLines withSome withNexts isRotation touches
+unfolding ringLines withSome withNexts isRotation touchesOf
 ring-step text s nexts ws r v at after e t = rw (e, t, link-anew s v (getD ws 0 0) nexts ws nexts)
 
 -- the sheet with some of its wires, and no next-ends
@@ -67,7 +69,8 @@ count-step : (l : Listed) (n after most : ℕ) (good : ℕ → ℕ → Parsed) �
 unfolding withCount withOne
 count-step l n after most good e h k = rw (e, le-leb 2 n h, le-leb n most k)
 
-module _ (s : Sheet) (z : Sized s) (S : Sound s) where
+-- a sound sheet, and for each bar its wires clockwise, begun anywhere
+module _ (s : Sheet) (z : Sized s) (S : Sound s) (ring : ℕ → List ℕ) (rotates : (v : ℕ) → v < s .vertices → Rotated s v (ring v)) where
   judged-back : (at : ℕ) → judged s at ≡ parsed s at
   unfolding judged isAccepted refusalNumber
   judged-back at =
@@ -80,20 +83,20 @@ module _ (s : Sheet) (z : Sized s) (S : Sound s) where
     done : (d : ℕ) → d < darts s → vertex s d < v → getD nexts d 0 ≡ next s d
     unused : (d : ℕ) → darts s ≤ d → getD nexts d 0 ≡ 0
 
-  placed-more : (v : ℕ) (nexts : List ℕ) → v < s .vertices → Placed v nexts → Placed (v + 1) (linkRing s v (rotation s v) nexts)
+  placed-more : (v : ℕ) (nexts : List ℕ) → v < s .vertices → Placed v nexts → Placed (v + 1) (linkRing s v (ring v) nexts)
   placed-more v nexts h P = record {
     sized = link-length s v (getD ws 0 0) ws nexts ∙ P .sized;
     done = λ d l m. by-cases (ℕ-discrete (vertex s d) v)
-        (λ e. T .links nexts (omega (arith, P .sized, S .edges-most)) d (record { below = l; here = e }))
+        (λ e. T .links nexts (omega (arith, P .sized, S .limits .edges-most)) d (record { below = l; here = e }))
         (λ n. link-leaves s (vertex s d) v ws nexts (T .around) n d (record { below = l; here = refl }) ∙ P .done d l (omega arith));
     unused = λ d l. link-other s v (getD ws 0 0) ws nexts d (λ i j. omega (arith, at-below s (getD ws i 0) v (T .around .inside i j))) ∙ P .unused d l;
   }
     where
       ws : List ℕ
-      ws = rotation s v
+      ws = ring v
 
       T : Rotated s v ws
-      T = rotated s S v h
+      T = rotates v h
 
   placed-all : (nexts : List ℕ) → Placed (s .vertices) nexts → nexts ≡ s .nexts
   placed-all nexts P = ext-getD 0 nexts (s .nexts) (P .sized ∙ sym (z .nexts)) (λ d _. by-cases (decLt d (darts s))
@@ -101,22 +104,22 @@ module _ (s : Sheet) (z : Sized s) (S : Sound s) where
       (λ l. P .unused d (omega arith) ∙ sym (S .unused .nexts d (omega arith))))
 
   -- the lines of the rings stand in the text at a place
-  module _ (text : List ℕ) (base : ℕ) (H : Holds text base (joinBelow (ringText s) (s .vertices))) where
-    rings-back : (r : ℕ) (nexts : List ℕ) (v at : ℕ) → v + r ≡ s .vertices → at ≡ base + length (joinBelow (ringText s) v) → Placed v nexts
-        → ringLines r text (withNexts s nexts) v at ≡ parsed s (base + length (joinBelow (ringText s) (s .vertices)))
+  module _ (text : List ℕ) (base : ℕ) (H : Stands text base (joinBelow (ringText ring) (s .vertices))) where
+    rings-back : (r : ℕ) (nexts : List ℕ) (v at : ℕ) → v + r ≡ s .vertices → at ≡ base + length (joinBelow (ringText ring) v) → Placed v nexts
+        → ringLines r text (withNexts s nexts) v at ≡ parsed s (base + length (joinBelow (ringText ring) (s .vertices)))
     unfolding ringLines withNexts
     rings-back zero nexts v at e p P =
         let q : v ≡ s .vertices = omega arith in
         rw (placed-all nexts (rw q at P), p, q) (judged-back _)
     rings-back (suc r) nexts v at e p P =
-        let T : Rotated s v (rotation s v) = rotated s S v (omega arith) in
-        let numerals : Numerals (rotation s v) = record { some = T .some; small = λ i h. omega (arith, T .around .inside i h, S .edges-most) } in
-        let there : Holds text at (ringText s v) = rw p (holds-joined (ringText s) (s .vertices) v (omega arith) H) in
-        ring-step text s nexts (rotation s v) r v at (at + length (ringText s v)) (layout .line-back aroundKey text (rotation s v) at numerals there) (around-law s v (rotation s v) .1 (T .around))
-        ∙ rings-back r (linkRing s v (rotation s v) nexts) (v + 1) (at + length (ringText s v)) (omega arith) (omega (arith, joined-length (ringText s) v)) (placed-more v nexts (omega arith) P)
+        let T : Rotated s v (ring v) = rotates v (omega arith) in
+        let numerals : Numerals (ring v) = record { some = T .some; small = λ i h. omega (arith, T .around .inside i h, S .limits .edges-most) } in
+        let there : Stands text at (ringText ring v) = rw p (stands-joined (ringText ring) (s .vertices) v (omega arith) H) in
+        ring-step text s nexts (ring v) r v at (at + length (ringText ring v)) (layout .line-back aroundKey text (ring v) at numerals there) (around-law s v (ring v) .1 (T .around))
+        ∙ rings-back r (linkRing s v (ring v) nexts) (v + 1) (at + length (ringText ring v)) (omega arith) (omega (arith, joined-length (ringText ring) v)) (placed-more v nexts (omega arith) P)
 
   -- and those of the wires
-  module _ (text : List ℕ) (base : ℕ) (H : Holds text base (joinBelow (edgeText s) (s .edges))) where
+  module _ (text : List ℕ) (base : ℕ) (H : Stands text base (joinBelow (edgeText s) (s .edges))) where
     edges-back : (r : ℕ) (tails heads : List ℕ) (k at : ℕ) → k + r ≡ s .edges → at ≡ base + length (joinBelow (edgeText s) k) → Filled (s .tails) k tails → Filled (s .heads) k heads
         → edgeLines r text (partly s tails heads) k at ≡ ringLines (s .vertices) text (withNexts s (zeros 512)) 0 (base + length (joinBelow (edgeText s) (s .edges)))
     unfolding edgeLines withNexts partly
@@ -125,28 +128,28 @@ module _ (s : Sheet) (z : Sized s) (S : Sound s) where
         rw (filled-all (S .unused .tails) (rw q at F), filled-all (S .unused .heads) (rw q at G), p, q)
     edges-back (suc r) tails heads k at e p F G =
         let J : Joins s k = S .joins k (omega arith) in
-        let numerals : Numerals (tail s k ∷ head s k ∷ []) = two-numbers (tail s k) (head s k) (omega (arith, S .vertices-most)) (omega (arith, S .vertices-most)) in
-        let there : Holds text at (edgeText s k) = rw p (holds-joined (edgeText s) (s .edges) k (omega arith) H) in
+        let numerals : Numerals (tail s k ∷ head s k ∷ []) = two-numbers (tail s k) (head s k) (omega (arith, S .limits .vertices-most)) (omega (arith, S .limits .vertices-most)) in
+        let there : Stands text at (edgeText s k) = rw p (stands-joined (edgeText s) (s .edges) k (omega arith) H) in
         edge-step text s tails heads r k at (at + length (edgeText s k)) (layout .line-back wireKey text (tail s k ∷ head s k ∷ []) at numerals there) J
         ∙ edges-back r (set tails k (tail s k)) (set heads k (head s k)) (k + 1) (at + length (edgeText s k)) (omega arith) (omega (arith, joined-length (edgeText s) k))
-        (filled-more (omega (arith, z .tails, S .edges-most)) F) (filled-more (omega (arith, z .heads, S .edges-most)) G)
+        (filled-more (omega (arith, z .tails, S .limits .edges-most)) F) (filled-more (omega (arith, z .heads, S .limits .edges-most)) G)
 
   placed-none : Placed 0 (zeros 512)
   placed-none = record { sized = zeros-length 512; done = λ d h l. absurd (omega arith); unused = λ d h. zeros-each 512 d }
 
   -- the whole text stands at the front
-  parse-back : (text : List ℕ) → Holds text 0 (sheetText s) → parse text ≡ parsed s (length (sheetText s))
-  unfolding parse sheetText emptySheet partly joinBelow
+  parse-back : (text : List ℕ) → Stands text 0 (sheetLines s ring) → parse text ≡ parsed s (length (sheetLines s ring))
+  unfolding parse emptySheet partly joinBelow
   parse-back text H =
-      let before-rings : Holds text 0 (bars ++ wires ++ edges) = holds-left (bars ++ wires ++ edges) rings H in
-      let counts : Holds text 0 (bars ++ wires) = holds-left (bars ++ wires) edges before-rings in
+      let before-rings : Stands text 0 (bars ++ wires ++ edges) = stands-left (bars ++ wires ++ edges) rings H in
+      let counts : Stands text 0 (bars ++ wires) = stands-left (bars ++ wires) edges before-rings in
       count-step (lineAt barsKey text 0) (s .vertices) (0 + length bars) 128 _
-      (layout .line-back barsKey text (s .vertices ∷ []) 0 (one-number (s .vertices) (omega (arith, S .vertices-most))) (holds-left bars wires counts)) (S .vertices-least) (S .vertices-most)
+      (layout .line-back barsKey text (s .vertices ∷ []) 0 (one-number (s .vertices) (omega (arith, S .limits .vertices-most))) (stands-left bars wires counts)) (S .limits .vertices-least) (S .limits .vertices-most)
       ∙ count-step (lineAt wiresKey text (0 + length bars)) (s .edges) (0 + length bars + length wires) 256 _
-      (layout .line-back wiresKey text (s .edges ∷ []) (0 + length bars) (one-number (s .edges) (omega (arith, S .edges-most))) (holds-right bars wires counts)) (S .edges-least) (S .edges-most)
-      ∙ edges-back text (0 + length (bars ++ wires)) (holds-right (bars ++ wires) edges before-rings) (s .edges) (zeros 256) (zeros 256) 0 (0 + length bars + length wires)
+      (layout .line-back wiresKey text (s .edges ∷ []) (0 + length bars) (one-number (s .edges) (omega (arith, S .limits .edges-most))) (stands-right bars wires counts)) (S .limits .edges-least) (S .limits .edges-most)
+      ∙ edges-back text (0 + length (bars ++ wires)) (stands-right (bars ++ wires) edges before-rings) (s .edges) (zeros 256) (zeros 256) 0 (0 + length bars + length wires)
       (omega arith) (omega (arith, length-append bars wires)) (filled-none (z .tails)) (filled-none (z .heads))
-      ∙ rings-back text (0 + length (bars ++ wires ++ edges)) (holds-right (bars ++ wires ++ edges) rings H) (s .vertices) (zeros 512) 0 (0 + length (bars ++ wires) + length edges)
+      ∙ rings-back text (0 + length (bars ++ wires ++ edges)) (stands-right (bars ++ wires ++ edges) rings H) (s .vertices) (zeros 512) 0 (0 + length (bars ++ wires) + length edges)
       (omega arith) (omega (arith, length-append (bars ++ wires) edges)) placed-none
       ∙ ap (parsed s) (omega (arith, length-append (bars ++ wires ++ edges) rings))
     where
@@ -160,8 +163,12 @@ module _ (s : Sheet) (z : Sized s) (S : Sound s) where
       edges = joinBelow (edgeText s) (s .edges)
 
       rings : List ℕ
-      rings = joinBelow (ringText s) (s .vertices)
+      rings = joinBelow (ringText ring) (s .vertices)
+
+  pub lines-back : (rest : List ℕ) (present : Sheet) → load (sheetLines s ring ++ rest) present ≡ record { answer = Accepted; sheet = s; taken = length (sheetLines s ring) }
+  unfolding loaded
+  lines-back rest present = ap (loaded present) (parse-back (sheetLines s ring ++ rest) (stands-front (sheetLines s ring) rest))
 
 pub round-trip : Round-Trip
-unfolding loaded
-round-trip s z S rest present = ap (loaded present) (parse-back s z S (sheetText s ++ rest) (holds-front (sheetText s) rest))
+unfolding sheetText
+round-trip s z S rest present = lines-back s z S (rotation s) (rotated s S) rest present

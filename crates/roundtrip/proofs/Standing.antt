@@ -9,12 +9,12 @@ use native.Mathlib.Numerals.{add-one}
 use native.Mathlib.Omega.{arith}
 use lib.ListN.{getD, length, length-append, List·getD-append}
 use Rattle.counting.specs.Below.{joinBelow}
-use Rattle.layout.specs.Layout.{Holds, Numerals}
-use Rattle.layout.proofs.Holding.{holds-left, holds-right}
+use Rattle.layout.specs.Layout.{Stands, Numerals}
+use Rattle.layout.proofs.Standing.{stands-left, stands-right}
 
 -- at the front, whatever follows
-pub holds-front : (ds rest : List ℕ) → Holds (ds ++ rest) 0 ds
-holds-front ds rest = record { room = omega (arith, length-append ds rest); each = λ i h. rw zero-add (List·getD-append ds rest 0 i h) }
+pub stands-front : (ds rest : List ℕ) → Stands (ds ++ rest) 0 ds
+stands-front ds rest = record { room = omega (arith, length-append ds rest); each = λ i h. rw zero-add (List·getD-append ds rest 0 i h) }
 
 module _ (f : ℕ → List ℕ) where
   -- the texts f 0, f 1, … one after the other
@@ -22,12 +22,12 @@ module _ (f : ℕ → List ℕ) where
   unfolding joinBelow
   joined-length k = rw (add-one k) (length-append (joinBelow f k) (f k))
 
-  pub holds-joined : {text : List ℕ} {at : ℕ} (n k : ℕ) → k < n → Holds text at (joinBelow f n) → Holds text (at + length (joinBelow f k)) (f k)
+  pub stands-joined : {text : List ℕ} {at : ℕ} (n k : ℕ) → k < n → Stands text at (joinBelow f n) → Stands text (at + length (joinBelow f k)) (f k)
   unfolding joinBelow
-  holds-joined zero k h H = absurd (omega arith)
-  holds-joined (suc n) k h H = by-cases (ℕ-discrete k n)
-      (λ e. rw e (holds-right (joinBelow f n) (f n) H))
-      (λ e. holds-joined n k (omega arith) (holds-left (joinBelow f n) (f n) H))
+  stands-joined zero k h H = absurd (omega arith)
+  stands-joined (suc n) k h H = by-cases (ℕ-discrete k n)
+      (λ e. rw e (stands-right (joinBelow f n) (f n) H))
+      (λ e. stands-joined n k (omega arith) (stands-left (joinBelow f n) (f n) H))
 
 -- the numbers of a line
 pub one-number : (a : ℕ) → a < 1000 → Numerals (a ∷ [])

@@ -13,7 +13,7 @@ use Rattle.answers.specs.Refusals.{isAccepted}
 use Rattle.sheet.specs.Check.{sound}
 use Rattle.answers.proofs.Refusals.{accepts}
 use Rattle.soundness.proofs.Law.{sound-law}
-use Rattle.write.specs.Write.{sheetText, writeAnswer, written, bufferAfter}
+use Rattle.writesheet.specs.Write.{sheetText, writeAnswer, written, bufferAfter}
 use Rattle.roundtrip.specs.Laws.{Written-Loads}
 use Rattle.roundtrip.proofs.RoundTrip.{round-trip}
 

@@ -7,8 +7,8 @@ use Rattle.sheet.specs.declared.Sheet.{Sheet}
 use Rattle.answers.specs.declared.Answer.the-variants.{Accepted}
 use Rattle.sheet.specs.Darts.{Sized}
 use Rattle.sheet.specs.Sound.{Sound}
-use Rattle.format.specs.Load.{load}
-use Rattle.write.specs.Write.{sheetText, writeSheet, bufferAfterSheet}
+use Rattle.load.specs.Load.{load}
+use Rattle.writesheet.specs.Write.{sheetText, writeSheet, bufferAfterSheet}
 
 -- What load accepts is sound.
 abbrev pub Loaded-Sound : Type 0

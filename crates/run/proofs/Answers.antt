@@ -3,11 +3,11 @@ use Prim.Native.Nat.{ℕ, _≤_, _<_}
 use mathlib.Core.Path.{_≡_, refl, sym, _∙_}
 use mathlib.Core.Logic.{_≢_}
 use mathlib.Core.Bool.{true, false, not, _||_}
-use mathlib.Core.List.{List, [], _∷_, map}
+use mathlib.Core.List.{List, [], _∷_}
 use native.Mathlib.Omega.{arith}
 use lib.Dec.{eqb}
-use lib.ListN.{length}
 use borrow.Author.Tests.{le-leb, lt-leb, eq-eqb, ne-eqb}
+use Rattle.clauses.specs.Darts.{touchesOf}
 use Rattle.counting.proofs.Iterate.{by-bool, not-false}
 use Rattle.answers.specs.declared.Answer.{Answer}
 use Rattle.answers.specs.declared.Answer.the-variants.{Accepted, NotSound, NotInSheet, CornersApart, ClosesCircle, Full}
@@ -16,16 +16,15 @@ use Rattle.answers.specs.Refusals.{first, _if_, isAccepted}
 use Rattle.answers.proofs.Refusals.{passed}
 use Rattle.sheet.specs.declared.Sheet.{Sheet}
 use Rattle.sheet.specs.declared.Findings.{Findings}
-use Rattle.sheet.specs.Findings as findings
-use Rattle.sheet.specs.Findings.{findingsOf, refused}
+use Rattle.sheet.specs.Contracts as findings
+use Rattle.sheet.specs.Contracts.{findingsOf, refused}
 use Rattle.sheet.specs.Check.{sound, faceTable, rowLevels}
 use Rattle.sheet.specs.Darts.{Sized, touches}
 use Rattle.soundness.proofs.Law.{sound-law}
 use Rattle.preservation.proofs.Accepted.{neither, other-number, not-at-most}
-use Rattle.counting.proofs.Stores.{unmapped}
 use Rattle.edit.specs.Reaching.{leadsTo}
 use Rattle.edit.specs.Calls.{noEdge, noVertex, cornerFace, runAnswer}
-use Rattle.run.specs.Corners.{touchesOf, cornerOf, Named, Room}
+use Rattle.run.specs.Contracts.{cornerOf, Named, Room}
 use Rattle.run.proofs.Corners.{touches-is, corner-is}
 
 module _ (s : Sheet) (a p b q : ℕ) where
@@ -148,10 +147,6 @@ module _ (s : Sheet) (found : Findings) (e : found ≡ findingsOf s) where
   unfolding findingsOf findings.accepted
   found-rows t = rw (e, t) refl
 
--- the arrays have the lengths of their types
-pub sized-by : (s : Sheet) → length (map (λ v. v) (s .tails)) ≡ 256 → length (map (λ v. v) (s .heads)) ≡ 256 → length (map (λ v. v) (s .nexts)) ≡ 512 → Sized s
-sized-by s t h n = record { tails = unmapped (s .tails) t; heads = unmapped (s .heads) h; nexts = unmapped (s .nexts) n }
-
 -- what an accepted call was given
 pub given : (s : Sheet) (a p b q : ℕ) → Sized s → runAnswer s a p b q ≡ Accepted → Room s a p b q
 unfolding runAnswer refusalNumber
@@ -166,10 +161,10 @@ given s a p b q z e =
     let (jv, jp) = neither (noVertex s a || noVertex s b) (noEdge s p) jr in
     let (ja, jb) = neither (noVertex s a) (noVertex s b) jv in
     record {
-      few = S .vertices-most;
+      few = S .limits .vertices-most;
       a-in = not-at-most (s .vertices) a ja;
       b-in = not-at-most (s .vertices) b jb;
       p-in = not-at-most (s .edges) p jp;
       q-in = not-at-most (s .edges) q jq;
-      room = omega (arith, S .edges-most, other-number (s .edges) 256 (o .0));
+      room = omega (arith, S .limits .edges-most, other-number (s .edges) 256 (o .0));
     }

@@ -24,7 +24,7 @@ use Rattle.soundness.proofs.Levels.{acyclic-says}
 use Rattle.soundness.proofs.Rows.{row-law}
 use Rattle.edit.specs.Reaching.{leadsTo}
 use Rattle.preservation.proofs.Reaching.{leads-to-law}
-use Rattle.run.specs.Corners.{Pair}
+use Rattle.run.specs.Contracts.{Pair}
 
 module _ (s : Sheet) (a b : ℕ) (g : Pair s a b) where
   -- from bar 0 a path leads to every bar
@@ -66,8 +66,8 @@ module _ (s : Sheet) (a b : ℕ) (g : Pair s a b) where
 
   within : Within (s .vertices) (s .edges) tails heads
   within = record {
-    few-nodes = omega (arith, g .sound .vertices-most);
-    few-edges = g .sound .edges-most;
+    few-nodes = omega (arith, g .sound .limits .vertices-most);
+    few-edges = g .sound .limits .edges-most;
     from-in = λ k h. by-cases (ℕ-discrete k 0)
         (λ e. rw e (omega (arith, tail-new, g .a-in)))
         (λ n. omega (arith, tail-old k n, g .sound .joins k h .tail-in));
@@ -78,13 +78,13 @@ module _ (s : Sheet) (a b : ℕ) (g : Pair s a b) where
 
   -- the new edge
   edge : Step a b
-  edge = record { edge = 0; inside = omega (arith, g .sound .edges-least); source = tail-new; target = head-new }
+  edge = record { edge = 0; inside = omega (arith, g .sound .limits .edges-least); source = tail-new; target = head-new }
 
   -- a path from a bar other than 0 does not take edge 0
   module _ (n : b ≢ 0) where
     never-root : {v k : ℕ} → Path (Leads s) b v k → v ≢ 0
     never-root here = n
-    never-root (more p t) = λ e. g .sound .source (t .edge, t .edge-in, t .to ∙ e)
+    never-root (more p t) = λ e. g .sound .poles .source (t .edge, t .edge-in, t .to ∙ e)
 
     carried : {v k : ℕ} → Path (Leads s) b v k → Path Step b v k
     carried here = here

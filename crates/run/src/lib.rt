@@ -2,12 +2,12 @@
 ghost use mathlib.Core.Path.{_≡_};
 ghost use Prim.Native.Nat.{_<_};
 ghost use lib.ListN.{getD};
-ghost use Rattle.clauses.specs.Darts.{opposite};
+ghost use Rattle.clauses.specs.Darts.{opposite, touchesOf, dartOf};
 ghost use Rattle.sheet.specs.Check.{rowLevels};
 ghost use Rattle.edit.specs.Reaching.{leadsTo};
 ghost use Rattle.edit.specs.Changes.{runEdge};
 ghost use Rattle.edit.specs.Calls.{runAnswer, runCall};
-ghost use Rattle.run.specs.Corners.{touchesOf, dartOf, cornerOf, Pair, Named, Room};
+ghost use Rattle.run.specs.Contracts.{cornerOf, Pair, Named, Room};
 use answers::Answer;
 use counting::wide;
 use edit::Edited;
@@ -169,7 +169,8 @@ pub fn run(s: Sheet, a: usize, p: usize, b: usize, q: usize) -> Edited
 {
     let answer = run_answer(s, a, p, b, q);
     if !answers::is_accepted(answer) {
-        return change::refuse(answer, s);
+        return edit::refuse(answer, s);
     }
-    change::accept(add_edge(s, a, p, b, q))
+    let made = add_edge(s, a, p, b, q);
+    edit::accept(made)
 }

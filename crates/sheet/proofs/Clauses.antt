@@ -24,8 +24,8 @@ use Rattle.answers.specs.Answers.{refusalNumber}
 use Rattle.answers.specs.Refusals.{first, isAccepted, _if_}
 use Rattle.sheet.specs.Darts.{tail, head, darts}
 use Rattle.sheet.specs.Check.{withinLimits, joined, unusedZero, rooted, rowLevels, acyclic, incoming, outgoing, poles, faceTable, planar, sound, judge}
-use Rattle.sheet.specs.Findings.{refused, accepted, structured, judgedOf, findingsOf}
-use Rattle.clauses.specs.Arrays.{limitsOf, joinsAt, zeroAt, unusedOf, Ends, dartTable, walkOf, ringsOf, endOf, poleAt, polesOf, rootedOf}
+use Rattle.sheet.specs.Contracts.{refused, accepted, structured, judgedOf, findingsOf}
+use Rattle.clauses.specs.Contracts.{limitsOf, joinsAt, zeroAt, unusedOf, Ends, dartTable, walkOf, ringsOf, endOf, poleAt, polesOf, rootedOf}
 use Rattle.sheet.specs.Darts.{sheetOf}
 use Rattle.counting.proofs.Below.{all-at, all-agree, all-both}
 use Rattle.sheet.proofs.Rings.{rings-are}

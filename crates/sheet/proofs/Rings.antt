@@ -11,7 +11,7 @@ use Rattle.counting.proofs.Below.{all-agree}
 use Rattle.orbits.specs.Tables.{traced, isPermutation}
 use Rattle.orbits.proofs.Distinct.{permutation-law}
 use Rattle.clauses.specs.Darts.{isTail}
-use Rattle.clauses.specs.Arrays.{dartTable, vertexOf, ringAt, ringsOf}
+use Rattle.clauses.specs.Contracts.{dartTable, vertexOf, ringAt, ringsIn, ringsOf}
 use Rattle.clauses.proofs.Below.{dart-at}
 use Rattle.sheet.specs.declared.Sheet.{Sheet}
 use Rattle.sheet.specs.Darts.{darts, vertex, next}
@@ -26,7 +26,7 @@ in-ring-agree at at′ next ring n h d l i =
     (ap (λ b. eqb (at′ (next d)) (at′ d) && b) (all-agree (λ e. not (eqb (at′ d) (at e)) || eqb (ring d) (ring e)) (λ e. not (eqb (at′ d) (at′ e)) || eqb (ring d) (ring e)) n (λ e j. rw (h e j) refl)))
 
 pub rings-are : (s : Sheet) → inRings s ≡ ringsOf (darts s) (s .tails) (s .heads) (s .nexts)
-unfolding inRings ringsOf ringAt vertex vertexOf
+unfolding inRings ringsOf ringsIn ringAt vertex vertexOf
 rings-are s =
     let ring : ℕ → ℕ = λ d. getD (traced (darts s) (s .nexts) .orbit) d 0 in
     let at : ℕ → ℕ = λ d. getD (dartTable (vertexOf (s .tails) (s .heads)) (darts s)) d 0 in

@@ -1,11 +1,10 @@
 -- The sheet record read as a directed graph with a clockwise order of the darts at each vertex. (Document 01's bar is a vertex, its wire an edge, its end a dart.)
 use Prim.Native.Nat.{ℕ, _*_, _/_}
 use mathlib.Core.Path.{_≡_}
-use mathlib.Core.Bool.{Bool, cond, _||_}
+use mathlib.Core.Bool.{Bool, cond}
 use mathlib.Core.List.{List}
-use lib.Dec.{eqb}
 use lib.ListN.{getD, length}
-use Rattle.clauses.specs.Darts.{tailDart, headDart, isTail, opposite}
+use Rattle.clauses.specs.Darts.{isTail, opposite, touchesOf, dartOf}
 use Rattle.sheet.specs.declared.Sheet.{Sheet}
 
 -- what the record's arrays have by their type
@@ -33,12 +32,12 @@ unfoldable pub vertex : Sheet → ℕ → ℕ
 vertex s d = cond (isTail d) (tail s (d / 2)) (head s (d / 2))
 
 -- wire k has an end at bar v
-unfoldable pub touches : Sheet → ℕ → ℕ → Bool
-touches s k v = eqb (tail s k) v || eqb (head s k) v
+abbrev pub touches : Sheet → ℕ → ℕ → Bool
+touches s = touchesOf (s .tails) (s .heads)
 
 -- that end
-unfoldable pub dartAt : Sheet → ℕ → ℕ → ℕ
-dartAt s k v = cond (eqb (tail s k) v) (tailDart k) (headDart k)
+abbrev pub dartAt : Sheet → ℕ → ℕ → ℕ
+dartAt s = dartOf (s .tails)
 
 -- the next end clockwise at the same bar
 abbrev pub next : Sheet → ℕ → ℕ

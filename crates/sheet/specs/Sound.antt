@@ -7,6 +7,13 @@ use Rattle.counting.specs.Orbits.{Reach, Orbits}
 use Rattle.sheet.specs.declared.Sheet.{Sheet}
 use Rattle.sheet.specs.Darts.{tail, head, darts, vertex, next, walk}
 
+-- n and m are within limits: n bars, 2 to 128, m wires, 2 to 256
+pub record Limits (s : Sheet) : Type 0 where
+  pub vertices-least : 2 ≤ s .vertices
+  pub vertices-most : s .vertices ≤ 128
+  pub edges-least : 2 ≤ s .edges
+  pub edges-most : s .edges ≤ 256
+
 -- each wire joins two different bars of the sheet
 pub record Joins (s : Sheet) (k : ℕ) : Type 0 where
   pub tail-in : tail s k < s .vertices
@@ -39,6 +46,13 @@ Incoming s v = (k : ℕ) × (k < s .edges) × (head s k ≡ v)
 abbrev pub Outgoing : Sheet → ℕ → Type 0
 Outgoing s v = (k : ℕ) × (k < s .edges) × (tail s k ≡ v)
 
+-- the rule on bars 0 and 1: bar 0 is the only bar with no incoming wire, bar 1 the only one with no outgoing wire
+pub record Poles (s : Sheet) : Type 0 where
+  pub source : ¬ Incoming s 0
+  pub other-sources : (v : ℕ) → v < s .vertices → v ≢ 0 → Incoming s v
+  pub sink : ¬ Outgoing s 1
+  pub other-sinks : (v : ℕ) → v < s .vertices → v ≢ 1 → Outgoing s v
+
 -- A face is an orbit of the walk. `face` numbers the faces from 0 to f - 1: `face d` is the face of the walk that leaves its bar by end d.
 abbrev pub Faces : Sheet → (ℕ → ℕ) → ℕ → Type 0
 Faces s face f = Orbits (darts s) (walk s) face f
@@ -52,10 +66,7 @@ pub record Euler (s : Sheet) : Type 0 where
 
 pub record Sound (s : Sheet) : Type 0 where
   -- n and m are within limits
-  pub vertices-least : 2 ≤ s .vertices
-  pub vertices-most : s .vertices ≤ 128
-  pub edges-least : 2 ≤ s .edges
-  pub edges-most : s .edges ≤ 256
+  pub limits : Limits s
   -- each wire joins two different bars of the sheet
   pub joins : (k : ℕ) → k < s .edges → Joins s k
   -- the next-ends of each bar form one ring of exactly its ends
@@ -68,9 +79,6 @@ pub record Sound (s : Sheet) : Type 0 where
   -- no directed circle exists
   pub acyclic : ¬ Circle (Leads s)
   -- bar 0 is the only bar with no incoming wire, bar 1 the only one with no outgoing wire
-  pub source : ¬ Incoming s 0
-  pub other-sources : (v : ℕ) → v < s .vertices → v ≢ 0 → Incoming s v
-  pub sink : ¬ Outgoing s 1
-  pub other-sinks : (v : ℕ) → v < s .vertices → v ≢ 1 → Outgoing s v
+  pub poles : Poles s
   -- n − m + f = 2
   pub euler : Euler s

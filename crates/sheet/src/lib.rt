@@ -3,7 +3,7 @@ ghost use mathlib.Core.Path.{_≡_};
 ghost use Rattle.sheet.specs.Darts.{sheetOf};
 ghost use Rattle.sheet.specs.Fresh.{freshSheet};
 ghost use Rattle.sheet.specs.Check.{sound, judge};
-ghost use Rattle.sheet.specs.Findings.{refused, structured, judgedOf, findingsOf};
+ghost use Rattle.sheet.specs.Contracts.{refused, structured, judgedOf, findingsOf};
 use answers::Answer;
 use answers::is_accepted;
 use clauses::all_join;

@@ -11,20 +11,14 @@ use lib.ListN.{getD, length, List·getD-eq-default}
 use Rattle.counting.specs.Below.{allBelow}
 use Rattle.sheet.specs.declared.Sheet.{Sheet}
 use Rattle.sheet.specs.Darts.{Sized, tail, head, next, darts}
-use Rattle.sheet.specs.Sound.{Joins, Unused, Incoming, Outgoing}
+use Rattle.sheet.specs.Sound.{Limits, Joins, Unused, Incoming, Outgoing, Poles}
 use Rattle.sheet.specs.Check.{withinLimits, joined, unusedZero, rooted, incoming, outgoing, poles}
 use Rattle.soundness.proofs.Tests.{Says, le-says, lt-says, eq-says, reworded, and-says, or-says, not-says, same-says, all-says, some-says}
 
-pub record Limits (s : Sheet) : Type 0 where
-  pub vertices-least : 2 ≤ s .vertices
-  pub vertices-most : s .vertices ≤ 128
-  pub edges-least : 2 ≤ s .edges
-  pub edges-most : s .edges ≤ 256
-
 -- each below n but p has it
-pub record AllBut (n p : ℕ) (Has : ℕ → Type 0) : Type 0 where
-  pub lacks : ¬ Has p
-  pub others : (v : ℕ) → v < n → v ≢ p → Has v
+record AllBut (n p : ℕ) (Has : ℕ → Type 0) : Type 0 where
+  lacks : ¬ Has p
+  others : (v : ℕ) → v < n → v ≢ p → Has v
 
 all-but : {n p : ℕ} {Has : ℕ → Type 0} → p < n → ((v : ℕ) → v < n → Has v ↔ v ≢ p) → AllBut n p Has
 all-but {p} h f = record { lacks = λ x. f p h .0 x refl; others = λ v l. f v l .1 }
@@ -79,10 +73,13 @@ module _ (s : Sheet) where
   unfolding outgoing
   outgoing-says v = some-says (s .edges) (λ k. eq-says (tail s k) v)
 
-  pub poles-law : 2 ≤ s .vertices → Says (poles s) (AllBut (s .vertices) 0 (Incoming s) × AllBut (s .vertices) 1 (Outgoing s))
+  pub poles-law : 2 ≤ s .vertices → Says (poles s) (Poles s)
   unfolding poles
   poles-law h =
       reworded
       (all-says (s .vertices) (λ v _. and-says (same-says (incoming-says v) (not-says (eq-says v 0))) (same-says (outgoing-says v) (not-says (eq-says v 1)))))
-      (λ w. (all-but (omega arith) (λ v l. w v l .0), all-but (omega arith) (λ v l. w v l .1)))
-      (λ w v l. (but-all (w .0) v l, but-all (w .1) v l))
+      (λ w.
+      let i = all-but (omega arith) (λ v l. w v l .0) in
+      let o = all-but (omega arith) (λ v l. w v l .1) in
+      record { source = i .lacks; other-sources = i .others; sink = o .lacks; other-sinks = o .others })
+      (λ P v l. (but-all (record { lacks = P .source; others = P .other-sources }) v l, but-all (record { lacks = P .sink; others = P .other-sinks }) v l))

@@ -9,10 +9,10 @@ use lib.ListN.{getD, replicate}
 use borrow.Author.Tests.{ne-eqb}
 use Rattle.digraph.specs.Digraph.{Within}
 use Rattle.digraph.specs.Digraph as digraph
-use Rattle.plane.specs.Columns.{FaceStep, FaceGraph}
-use Rattle.plane.specs.Columns as plane
-use Rattle.plane.specs.Columns.FaceStep.{across, over-root}
-use Rattle.plane.proofs.Columns.{face-graph, column-laws}
+use Rattle.planarmap.specs.Columns.{FaceStep, FaceGraph}
+use Rattle.planarmap.specs.Columns as plane
+use Rattle.planarmap.specs.Columns.FaceStep.{across, over-root}
+use Rattle.planarmap.proofs.Columns.{face-graph, column-laws}
 use Rattle.sheet.specs.declared.Sheet.{Sheet}
 use Rattle.clauses.specs.Darts.{tailDart, headDart, opposite}
 use Rattle.sheet.specs.Sound.{Sound, Faces}
@@ -76,7 +76,7 @@ module _ (s : Sheet) where
 
 module _ {s : Sheet} (S : Sound s) where
   faces-of : Faces s (face s) (faceCount s)
-  faces-of = faces-numbered s (S .edges-most) (rotation-of S)
+  faces-of = faces-numbered s (S .limits .edges-most) (rotation-of S)
 
   -- the faces of a wire
   face-below : (b : Bool) (k : ℕ) → k < s .edges → face s (dart b k) < faceCount s
@@ -89,19 +89,19 @@ module _ {s : Sheet} (S : Sound s) where
 
   columns-within : Within (faceCount s) (s .edges) (edgeTable (faceFrom s) s) (edgeTable (faceTo s) s)
   columns-within = record {
-    few-nodes = omega (arith, S .edges-most, S .vertices-least, plane-of S .euler);
-    few-edges = S .edges-most;
+    few-nodes = omega (arith, S .limits .edges-most, S .limits .vertices-least, plane-of S .euler);
+    few-edges = S .limits .edges-most;
     from-in = λ k h. rw (table-at s (faceFrom s) k h) (ends-below k h .0);
     to-in = λ k h. rw (table-at s (faceTo s) k h) (ends-below k h .1);
   }
 
   graph : FaceGraph (mapOf s)
-  graph = face-graph (plane-of S) (S .edges-least)
+  graph = face-graph (plane-of S) (S .limits .edges-least)
 
   column-longest : (c : ℕ) → c < faceCount s → Column s (face s) c (column s c)
   unfolding columnLevels Listed opposite
   column-longest = level-longest (FaceLeads s (face s)) (faceCount s) (s .edges) (edgeTable (faceFrom s) s) (edgeTable (faceTo s) s)
-      columns-within (listed s (omega (arith, S .edges-least))) (unlisted s)
+      columns-within (listed s (omega (arith, S .limits .edges-least))) (unlisted s)
       (λ z. graph .no-circle (circle-over (to-step s) z)) (rightFace (face s) 0)
       (λ c h. let (k, p) = graph .reached c h in (k, path-over (to-lead s) p))
 

@@ -9,7 +9,7 @@ use Rattle.counting.proofs.Iterate.{by-bool}
 use Rattle.soundness.proofs.Tests.{eq-says, or-says}
 use Rattle.soundness.proofs.Darts.{dart, dart-edge, dart-below, dart-vertex, by-dart}
 use Rattle.sheet.specs.declared.Sheet.{Sheet}
-use Rattle.clauses.specs.Darts.{isTail}
+use Rattle.clauses.specs.Darts.{isTail, touchesOf, dartOf}
 use Rattle.sheet.specs.Darts.{tail, head, darts, vertex, touches, dartAt}
 use Rattle.sheet.specs.Sound.{Joins}
 
@@ -20,7 +20,7 @@ pub record EndAt (s : Sheet) (v d : ℕ) : Type 0 where
 
 module _ (s : Sheet) where
   at-is : (k v : ℕ) → dartAt s k v ≡ dart (eqb (tail s k) v) k
-  unfolding dartAt
+  unfolding dartOf
   at-is k v = by-bool (eqb (tail s k) v) (λ t. rw t) (λ t. rw t)
 
   pub at-edge : (k v : ℕ) → dartAt s k v / 2 ≡ k
@@ -30,7 +30,7 @@ module _ (s : Sheet) where
   at-below k v h = rw (at-is k v) (dart-below (eqb (tail s k) v) h)
 
   pub at-end : (k v : ℕ) → k < s .edges → touches s k v ≡ true → EndAt s v (dartAt s k v)
-  unfolding touches
+  unfolding touchesOf
   at-end k v h t = record { below = at-below k v h; here = ap (vertex s) (at-is k v) ∙ dart-vertex s (eqb (tail s k) v) k ∙ by-bool (eqb (tail s k) v) tail-end head-end }
     where
       tail-end : eqb (tail s k) v ≡ true → cond (eqb (tail s k) v) (tail s k) (head s k) ≡ v
@@ -41,7 +41,7 @@ module _ (s : Sheet) where
 
   -- an end at bar v is the end there of its wire, which touches v
   pub end-touches : {v d : ℕ} → EndAt s v d → touches s (d / 2) v ≡ true
-  unfolding touches vertex
+  unfolding touchesOf vertex
   end-touches {v} {d} e = by-bool (isTail d)
       (λ t. or-says (eq-says (tail s (d / 2)) v) (eq-says (head s (d / 2)) v) .1 (inl (rw t at (e .here))))
       (λ t. or-says (eq-says (tail s (d / 2)) v) (eq-says (head s (d / 2)) v) .1 (inr (rw t at (e .here))))

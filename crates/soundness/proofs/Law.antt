@@ -1,19 +1,21 @@
 -- The test of soundness says what soundness is. Assumes nothing.
+use mathlib.Core.Bool.{not}
 use Prim.Native.Nat.{ℕ, _<_}
 use native.Mathlib.Omega.{arith}
+use borrow.Author.Tests.{not-true}
 use Rattle.counting.specs.Paths.{Circle}
 use Rattle.digraph.specs.Digraph.{Within}
 use Rattle.digraph.specs.Digraph as digraph
 use Rattle.sheet.specs.declared.Sheet.{Sheet}
-use Rattle.sheet.specs.Sound.{Joins, Leads, Sound}
+use Rattle.sheet.specs.Sound.{Limits, Joins, Leads, Sound}
 use Rattle.sheet.specs.Check.{rowLevels, acyclic}
 use Rattle.soundness.specs.Laws.{Sound-Law}
-use Rattle.soundness.proofs.Tests.{Says, reworded}
+use Rattle.soundness.proofs.Tests.{Says, reworded, not-says}
 use Rattle.soundness.proofs.Judge.{Passed, passed-says}
-use Rattle.soundness.proofs.Clauses.{Limits, limits-law, joined-law, rooted-law, unused-law, poles-law}
+use Rattle.soundness.proofs.Clauses.{limits-law, joined-law, rooted-law, unused-law, poles-law}
 use Rattle.soundness.proofs.Rings.{Rotation, rings-rotation, rings-law}
 use Rattle.soundness.proofs.Faces.{planar-law}
-use Rattle.soundness.proofs.Levels.{acyclic-says}
+use Rattle.soundness.proofs.Levels.{circle-found, acyclic-says}
 
 -- an edge of the record is an edge of its lists
 pub listed : (s : Sheet) (u v : ℕ) → Leads s u v → digraph.Leads (s .edges) (s .tails) (s .heads) u v
@@ -35,8 +37,16 @@ module _ (s : Sheet) (l : Limits s) (joins : (k : ℕ) → k < s .edges → Join
   unfolding acyclic rowLevels
   acyclic-law = acyclic-says (Leads s) (s .vertices) (s .edges) (s .tails) (s .heads) rows-within (listed s) (unlisted s)
 
+  -- and where it fails, there is a circle
+  pub circle-law : Says (not (acyclic s)) (Circle (Leads s))
+  unfolding acyclic rowLevels
+  circle-law = (
+    λ t. circle-found (Leads s) (s .vertices) (s .edges) (s .tails) (s .heads) rows-within (listed s) (unlisted s) (not-true (acyclic s) t),
+    λ c. not-says acyclic-law .1 (λ f. f c),
+  )
+
 pub limits-of : {s : Sheet} → Sound s → Limits s
-limits-of S = record { vertices-least = S .vertices-least; vertices-most = S .vertices-most; edges-least = S .edges-least; edges-most = S .edges-most }
+limits-of S = record { vertices-least = S .limits .vertices-least; vertices-most = S .limits .vertices-most; edges-least = S .limits .edges-least; edges-most = S .limits .edges-most }
 
 pub rotation-of : {s : Sheet} → Sound s → Rotation s
 rotation-of {s} S = rings-rotation s (S .joins) (S .rings)
@@ -50,36 +60,28 @@ sound-law s z = reworded (passed-says s) to-sound to-passed
         let j = joined-law s .0 (x .lined .joins) in
         let r = rings-law s j (l .edges-most) .0 (x .lined .rings) in
         let o = rooted-law s .0 (x .root) in
-        let (i, t) = poles-law s (l .vertices-least) .0 (x .bars) in
         record {
-          vertices-least = l .vertices-least;
-          vertices-most = l .vertices-most;
-          edges-least = l .edges-least;
-          edges-most = l .edges-most;
+          limits = l;
           joins = j;
           rings = r;
           unused = unused-law s z .0 (x .lined .unused);
           root-tail = o .0;
           root-head = o .1;
           acyclic = acyclic-law s l j .0 (x .no-circle);
-          source = i .lacks;
-          other-sources = i .others;
-          sink = t .lacks;
-          other-sinks = t .others;
+          poles = poles-law s (l .vertices-least) .0 (x .bars);
           euler = planar-law s (l .edges-most) (rings-rotation s j r) .0 (x .two);
         }
 
     to-passed : Sound s → Passed s
     to-passed S = record {
       lined = record {
-        limits = limits-law s .1 (limits-of S);
+        limits = limits-law s .1 (S .limits);
         joins = joined-law s .1 (S .joins);
-        rings = rings-law s (S .joins) (S .edges-most) .1 (S .rings);
+        rings = rings-law s (S .joins) (S .limits .edges-most) .1 (S .rings);
         unused = unused-law s z .1 (S .unused);
       };
       root = rooted-law s .1 (S .root-tail, S .root-head);
-      no-circle = acyclic-law s (limits-of S) (S .joins) .1 (S .acyclic);
-      bars = poles-law s (S .vertices-least) .1
-          (record { lacks = S .source; others = S .other-sources }, record { lacks = S .sink; others = S .other-sinks });
-      two = planar-law s (S .edges-most) (rotation-of S) .1 (S .euler);
+      no-circle = acyclic-law s (S .limits) (S .joins) .1 (S .acyclic);
+      bars = poles-law s (S .limits .vertices-least) .1 (S .poles);
+      two = planar-law s (S .limits .edges-most) (rotation-of S) .1 (S .euler);
     }

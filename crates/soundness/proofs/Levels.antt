@@ -1,5 +1,6 @@
 -- Levels of a graph that is given by its edges: whether it has a circle, and longest paths from where all its nodes are reached. Assumes nothing.
 use mathlib.Core.Path.{_≡_}
+use mathlib.Core.Bool.{false}
 use mathlib.Core.List.{List}
 use Prim.Native.Nat.{ℕ, suc, _+_, _<_}
 use native.Mathlib.Omega.{arith}
@@ -44,6 +45,11 @@ module _ (Step : ℕ → ℕ → Type 0) (nodes edges : ℕ) (from to : List ℕ
   entered : {a v k : ℕ} → Path (Leads edges from to) a v (suc k) → v < nodes
   entered (more p t) = rw (t .target) at (within .to-in (t .edge) (t .inside))
 
+  -- where the test fails, a circle is found
+  pub circle-found : levelsOf nodes edges from to .acyclic ≡ false → Circle Step
+  unfolding levels
+  circle-found t = circle-over steps (leveled .circle t .0)
+
   pub acyclic-says : Says (levelsOf nodes edges from to .acyclic) (¬ Circle Step)
   unfolding levels
   acyclic-says = (
@@ -51,7 +57,7 @@ module _ (Step : ℕ → ℕ → Type 0) (nodes edges : ℕ) (from to : List ℕ
         let round = path-over listed (c .round) in
         let deep = leveled .deepest t (c .at) (entered round) in
         omega (arith, deep .most (deep .start) _ (append (deep .path) round)),
-    λ f. by-bool (levels .acyclic) (λ t. t) (λ t. absurd (f (circle-over steps (leveled .circle t .0)))),
+    λ f. by-bool (levels .acyclic) (λ t. t) (λ t. absurd (f (circle-found t))),
   )
 
   -- where all nodes are reached from a, and there is no circle

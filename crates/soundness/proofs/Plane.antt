@@ -5,7 +5,7 @@ use mathlib.Core.Bool.{Bool, true, false, not, cond}
 use Prim.Native.Nat.{ℕ, _<_}
 use native.Mathlib.Omega.{arith}
 use Rattle.counting.proofs.Iterate.{clash, either}
-use Rattle.plane.specs.Map.{Bipolar, Plane}
+use Rattle.planarmap.specs.Map.{Bipolar, Plane}
 use Rattle.sheet.specs.declared.Sheet.{Sheet}
 use Rattle.clauses.specs.Darts.{isTail, opposite}
 use Rattle.sheet.specs.Darts.{tail, head, darts, vertex}
@@ -54,17 +54,17 @@ module _ {s : Sheet} (S : Sound s) where
     rotation = rotation-of S .perm;
     next-vertex = λ {d} h. rotation-of S .keeps d h;
     ring = λ {d} {e} h k q. rotation-of S .ring d e h k q;
-    walks = faces-numbered s (S .edges-most) (rotation-of S);
+    walks = faces-numbered s (S .limits .edges-most) (rotation-of S);
     rises = λ {d} h t. up d h t;
-    root-below = omega (arith, S .edges-least);
+    root-below = omega (arith, S .limits .edges-least);
     root-out = refl;
     root-tail = dart-vertex s true 0 ∙ S .root-tail;
     root-head = ap (vertex s) (dart-opposite true 0) ∙ dart-vertex s false 0 ∙ S .root-head;
-    source = λ {d} h e. only true 0 (S .source) d h e;
-    sink = λ {d} h e. only false 1 (S .sink) d h e;
-    has-out = λ {v} h n. has true v (S .other-sinks v h n);
-    has-in = λ {v} h n. has false v (S .other-sources v h n);
+    source = λ {d} h e. only true 0 (S .poles .source) d h e;
+    sink = λ {d} h e. only false 1 (S .poles .sink) d h e;
+    has-out = λ {v} h n. has true v (S .poles .other-sinks v h n);
+    has-in = λ {v} h n. has false v (S .poles .other-sources v h n);
   }
 
   pub plane-of : Plane (mapOf s)
-  plane-of = record { bipolar = bipolar-of; euler = omega (arith, S .euler .two, faces-unique s (S .edges-most) (rotation-of S) (S .euler .numbered)) }
+  plane-of = record { bipolar = bipolar-of; euler = omega (arith, S .euler .two, faces-unique s (S .limits .edges-most) (rotation-of S) (S .euler .numbered)) }

@@ -12,7 +12,7 @@ use Rattle.sheet.specs.Levels.{Row}
 use Rattle.sheet.specs.Check.{rowLevels, row}
 use Rattle.soundness.specs.Laws.{Rows}
 use Rattle.soundness.proofs.Levels.{level-longest}
-use Rattle.soundness.proofs.Law.{rows-within, listed, unlisted, limits-of}
+use Rattle.soundness.proofs.Law.{rows-within, listed, unlisted}
 
 module _ {s : Sheet} (S : Sound s) where
   from-below : (u v : ℕ) → Leads s u v → u < s .vertices
@@ -21,12 +21,12 @@ module _ {s : Sheet} (S : Sound s) where
   -- every bar but 0 has an incoming wire, so all are reached from bar 0
   all-reached : (v : ℕ) → v < s .vertices → (k : ℕ) × Path (Leads s) 0 v k
   all-reached = reached (s .vertices) from-below 0
-      (λ v h n. let (k, l, e) = S .other-sources v h n in (tail s k, record { edge = k; edge-in = l; from = refl; to = e })) (S .acyclic)
+      (λ v h n. let (k, l, e) = S .poles .other-sources v h n in (tail s k, record { edge = k; edge-in = l; from = refl; to = e })) (S .acyclic)
 
   row-longest : (v : ℕ) → v < s .vertices → Row s v (row s v)
   unfolding rowLevels
   row-longest = level-longest (Leads s) (s .vertices) (s .edges) (s .tails) (s .heads)
-      (rows-within s (limits-of S) (S .joins)) (listed s) (unlisted s) (S .acyclic) 0 all-reached
+      (rows-within s (S .limits) (S .joins)) (listed s) (unlisted s) (S .acyclic) 0 all-reached
 
   row-rises : (u v : ℕ) → Leads s u v → row s u < row s v
   row-rises u v t =
@@ -37,6 +37,6 @@ pub row-law : {s : Sheet} → Sound s → Rows s
 row-law {s} S = record {
   longest = row-longest S;
   rises = λ k h. row-rises S (tail s k) (head s k) (record { edge = k; edge-in = h; from = refl; to = refl });
-  first = omega (arith, rank-path (row s) (row-rises S) (row-longest S 0 (omega (arith, S .vertices-least)) .path));
+  first = omega (arith, rank-path (row s) (row-rises S) (row-longest S 0 (omega (arith, S .limits .vertices-least)) .path));
   fewer = λ v h. short (s .vertices) (from-below S) (S .acyclic) h (row-longest S v h .path);
 }

@@ -1,12 +1,13 @@
--- A sheet read as a map of darts.
-use Rattle.plane.specs.Map.{Map}
+-- A sheet read as a map of darts, with any rows; and with its own.
+use Prim.Native.Nat.{ℕ}
+use Rattle.planarmap.specs.Map.{Map}
 use Rattle.sheet.specs.declared.Sheet.{Sheet}
 use Rattle.clauses.specs.Darts.{opposite, isTail}
 use Rattle.sheet.specs.Darts.{darts, next, vertex}
 use Rattle.sheet.specs.Check.{faceCount, face, row}
 
-abbrev pub mapOf : Sheet → Map
-mapOf s = record {
+abbrev pub mapWith : Sheet → (ℕ → ℕ) → Map
+mapWith s row = record {
   darts = darts s;
   vertices = s .vertices;
   edges = s .edges;
@@ -17,5 +18,8 @@ mapOf s = record {
   out = isTail;
   vertex = vertex s;
   face = face s;
-  row = row s;
+  row = row;
 }
+
+abbrev pub mapOf : Sheet → Map
+mapOf s = mapWith s (row s)

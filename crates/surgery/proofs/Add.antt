@@ -8,7 +8,7 @@ use native.Mathlib.Omega.{arith}
 use Rattle.counting.specs.Orbits.{Perm, Orbits}
 use Rattle.counting.proofs.Iterate.{by-bool, clash, total, total-bounds}
 use Rattle.counting.proofs.Lowest.{lowest-orbits, orbits-by-count}
-use Rattle.plane.specs.Map.{Map, walk, Bipolar}
+use Rattle.planarmap.specs.Map.{Map, walk, Bipolar}
 use Rattle.surgery.specs.Edits.{Added}
 use Rattle.surgery.specs.Statements.{Walks, Rises, Added-Bipolar, Added-Faces, Added-Sides, Added-Plane, Added-Rises}
 use Rattle.surgery.proofs.Insert.{inserted-perm, inserted-number}

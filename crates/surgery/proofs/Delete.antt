@@ -8,8 +8,8 @@ use native.Mathlib.Omega.{arith}
 use Rattle.counting.specs.Orbits.{Perm, Orbits}
 use Rattle.counting.proofs.Iterate.{clash}
 use Rattle.counting.proofs.Lowest.{lowest-orbits, orbits-by-count}
-use Rattle.plane.specs.Map.{Map, Bipolar}
-use Rattle.plane.proofs.Corners.{euler-most}
+use Rattle.planarmap.specs.Map.{Map, Bipolar}
+use Rattle.planarmap.proofs.Corners.{euler-most}
 use Rattle.surgery.specs.Darts.{Inserted}
 use Rattle.surgery.specs.Edits.{Deleted}
 use Rattle.surgery.specs.Statements.{Deleted-Bipolar, Deleted-Faces, Deleted-Same, Deleted-Sides, Deleted-Plane, Deleted-Rises}

@@ -7,7 +7,7 @@ use native.Mathlib.Decide.{ℕ-discrete}
 use native.Mathlib.Omega.{arith}
 use Rattle.counting.specs.Orbits.{Perm, iter, Orbits}
 use Rattle.counting.proofs.Iterate.{clash, total, total-bounds}
-use Rattle.plane.specs.Map.{Map, walk, Bipolar}
+use Rattle.planarmap.specs.Map.{Map, walk, Bipolar}
 use Rattle.surgery.specs.Edits.{Grown}
 use Rattle.surgery.specs.Statements.{Walks, Rises}
 use Rattle.surgery.proofs.Edge.{Pairing, across-perm, unpaired}

@@ -7,7 +7,7 @@ use native.Mathlib.Omega.{arith}
 use Rattle.counting.specs.Orbits.{Perm, Bijection, Orbits}
 use Rattle.counting.proofs.Counts.{eqb-same, eqb-other}
 use Rattle.counting.proofs.Orbits.{number-unique, renumbered-perm, renumbered-orbits}
-use Rattle.plane.specs.Map.{Map, walk, Bipolar}
+use Rattle.planarmap.specs.Map.{Map, walk, Bipolar}
 use Rattle.surgery.specs.Renumber.{Renumbered, renumber, exchange}
 use Rattle.surgery.specs.Statements.{Renumbered-Bipolar, Renumbered-Faces, Renumbered-Plane, Renumbered-Rises, Renumber-Plane}
 use Rattle.surgery.proofs.Edge.{Pairing}

@@ -9,7 +9,7 @@ use Rattle.counting.specs.Orbits.{Perm, iter, Orbits}
 use Rattle.counting.proofs.Iterate.{clash}
 use Rattle.counting.proofs.Orbits.{perm-agree, orbits-agree}
 use Rattle.counting.proofs.Lowest.{orbit-count, lowest-orbits, orbits-by-count}
-use Rattle.plane.specs.Map.{Map, walk, Bipolar}
+use Rattle.planarmap.specs.Map.{Map, walk, Bipolar}
 use Rattle.surgery.specs.Darts.{Inserted, Removed}
 use Rattle.surgery.specs.Edits.{Smoothed}
 use Rattle.surgery.specs.Statements.{Smoothed-Bipolar, Smoothed-Faces, Smoothed-Plane, Smoothed-Rises}

@@ -10,7 +10,7 @@ use Rattle.counting.proofs.Iterate.{clash}
 use Rattle.counting.proofs.Reach.{before}
 use Rattle.counting.proofs.Orbits.{perm-agree, orbits-agree}
 use Rattle.counting.proofs.Lowest.{orbit-count, lowest-orbits, orbits-by-count}
-use Rattle.plane.specs.Map.{Map, walk, Bipolar}
+use Rattle.planarmap.specs.Map.{Map, walk, Bipolar}
 use Rattle.surgery.specs.Darts.{Inserted}
 use Rattle.surgery.specs.Edits.{Subdivided}
 use Rattle.surgery.specs.Statements.{Rises, Subdivided-Bipolar, Subdivided-Faces, Subdivided-Plane, Subdivided-Rises}

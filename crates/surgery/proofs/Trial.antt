@@ -10,7 +10,7 @@ use lib.ListN.{getD}
 use Rattle.counting.specs.Counts.{count}
 use Rattle.counting.specs.Orbits.{Perm}
 use Rattle.counting.proofs.Lowest.{orbit-count, low, orbits-by-count}
-use Rattle.plane.specs.Map.{Map, Plane}
+use Rattle.planarmap.specs.Map.{Map, Plane}
 use Rattle.surgery.specs.Edits.{Grown, Added, Subdivided, Deleted, Smoothed}
 use Rattle.surgery.specs.Renumber.{renumber, exchange}
 use Rattle.surgery.specs.Statements.{Walks, Rises}

@@ -4,7 +4,7 @@ use mathlib.Core.Path.{_≡_}
 use mathlib.Core.Logic.{_≢_}
 use mathlib.Core.Bool.{true, false}
 use Prim.Native.Nat.{ℕ, suc, _<_}
-use Rattle.plane.specs.Map.{Map}
+use Rattle.planarmap.specs.Map.{Map}
 use Rattle.surgery.specs.Darts.{Inserted, Removed, Paired}
 
 -- M′ has one edge more, from its tail dart N to its head dart N + 1, where N is the number of M's darts

@@ -4,7 +4,7 @@ use mathlib.Core.Bool.{cond}
 use Prim.Native.Nat.{ℕ, _<_}
 use lib.Dec.{eqb}
 use Rattle.counting.specs.Orbits.{Bijection}
-use Rattle.plane.specs.Map.{Map}
+use Rattle.planarmap.specs.Map.{Map}
 
 -- M′ is M with its darts renumbered by σ and its vertices by ρ, which keeps 0 and 1; τ and π go back
 pub record Renumbered (M M′ : Map) (σ τ ρ π : ℕ → ℕ) : Type 0 where

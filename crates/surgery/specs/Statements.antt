@@ -4,7 +4,7 @@ use mathlib.Core.Logic.{_≢_}
 use mathlib.Core.Bool.{Bool, true, false}
 use Prim.Native.Nat.{ℕ, suc, _<_}
 use Rattle.counting.specs.Orbits.{Perm, Bijection, Orbits}
-use Rattle.plane.specs.Map.{Map, walk, Bipolar, Plane}
+use Rattle.planarmap.specs.Map.{Map, walk, Bipolar, Plane}
 use Rattle.surgery.specs.Edits.{Added, Subdivided, Deleted, Smoothed}
 use Rattle.surgery.specs.Renumber.{Renumbered, renumber}
 

@@ -1,12 +1,13 @@
 //! Whole inputs of the program `plate`.
 
-use super::edits::edit_text;
+use super::edits::{any_edit, edit_line, edit_text};
 use super::random::Random;
 use super::records::{directed_torus, from_rings, refused_sheet, torus};
-use super::sheets::{extreme_sheets, parallel, random_sheet};
+use super::sheets::{extreme_sheets, grown, parallel, random_sheet};
 use super::texts::{damaged, sheet_text};
+use crate::load::load;
 use crate::plate::MAX_INPUT;
-use crate::sheet::Sheet;
+use crate::sheet::{Sheet, MAX_EDGES, MAX_VERTICES};
 
 /// An endless sequence of inputs: good ones, damaged ones, and ones at the limits.
 pub struct Inputs {
@@ -72,7 +73,7 @@ impl Iterator for Inputs {
             0 => self.long(),
             1 => {
                 let length = self.random.below(80);
-                (0..length).map(|_| self.random.word() as u8).collect()
+                noise(&mut self.random, length)
             }
             2..=7 => self.refused_after_last_line(),
             8..=39 => self.good(),
@@ -84,6 +85,57 @@ impl Iterator for Inputs {
                 text
             }
         })
+    }
+}
+
+/// Any bytes.
+pub fn noise(random: &mut Random, length: usize) -> Vec<u8> {
+    (0..length).map(|_| random.word() as u8).collect()
+}
+
+/// The sheets of every count of bars and of every count of wires, with some edit lines each.
+pub fn inputs_of_every_size(random: &mut Random) -> Vec<Vec<u8>> {
+    let by_vertices = (2..=MAX_VERTICES).map(|n| (n, n..=MAX_EDGES.min(3 * n)));
+    let by_edges = (2..=MAX_EDGES).map(|m| (MAX_VERTICES.min(m), m..=m));
+    let counts: Vec<_> = by_vertices.chain(by_edges).collect();
+    let mut input_of = |(n, edges): (usize, std::ops::RangeInclusive<usize>)| {
+        let edges = random.between(*edges.start(), *edges.end());
+        let sheet = grown(random, n, edges);
+        let mut input = sheet_text(random, &sheet);
+        input.extend(edit_text(random, &sheet, 4).0);
+        input
+    };
+    counts.into_iter().map(&mut input_of).collect()
+}
+
+/// An input near another one: damaged, cut, its edit lines in another order, more edit lines, the
+/// sheet a second time, or longer up to the limit and two bytes over it.
+pub fn variation(random: &mut Random, input: &[u8]) -> Vec<u8> {
+    let (_, sheet, taken) = load(input, &Sheet::fresh());
+    let (front, rest) = input.split_at(taken);
+    match random.below(20) {
+        0 => input[..random.below(input.len() + 1)].to_vec(),
+        1 => input[..input.len().saturating_sub(1)].to_vec(),
+        2..=4 => {
+            let mut lines: Vec<&[u8]> = rest.split_inclusive(|&byte| byte == b'\n').collect();
+            random.shuffle(&mut lines);
+            [front, &lines.concat()].concat()
+        }
+        5..=8 => {
+            let count = random.below(20);
+            let more = (0..count).flat_map(|_| edit_line(any_edit(random, &sheet)));
+            [input, &more.collect::<Vec<u8>>()].concat()
+        }
+        9 => [input, front].concat(),
+        10 if random.one_in(8) => {
+            let filler = random.pick(&[b"\n".as_slice(), b"out=1\n", b"x", b"in=0\n"]);
+            padded(input, filler, MAX_INPUT - 1 + random.below(4))
+        }
+        11 if random.one_in(8) => {
+            let length = random.below(MAX_INPUT + 3);
+            noise(random, length)
+        }
+        _ => damaged(random, input),
     }
 }
 
@@ -104,7 +156,8 @@ pub fn special_inputs() -> Vec<Vec<u8>> {
     let fresh = sheet_text(random, &Sheet::fresh());
     let wide = sheet_text(random, &parallel(256));
     let mut inputs: Vec<Vec<u8>> = vec![Vec::new(), b"\n".to_vec(), b"\r\n".to_vec()];
-    for size in [MAX_INPUT - 1, MAX_INPUT, MAX_INPUT + 1, 4 * MAX_INPUT] {
+    let sizes = [MAX_INPUT - 1, MAX_INPUT, MAX_INPUT + 1, MAX_INPUT + 2, 4 * MAX_INPUT];
+    for size in sizes {
         for filler in [b"\n".as_slice(), b"in=1\n", b"out=1\n", b"x", b"off=2\nin=1\n"] {
             inputs.push(padded(&fresh, filler, size));
             inputs.push(padded(&wide, filler, size));

@@ -10,7 +10,7 @@ pub mod texts;
 
 pub use edits::{any_edit, any_number, edit_line, edit_text, likely_edit, refused_edit};
 pub use graphs::{digraph, permutation};
-pub use inputs::{special_inputs, truncations, Inputs};
+pub use inputs::{inputs_of_every_size, special_inputs, truncations, variation, Inputs};
 pub use random::Random;
 pub use records::{damaged_record, directed_torus, refused_sheet, torus, Records};
 pub use sheets::{extreme_sheets, grown, random_sheet, renumbered};

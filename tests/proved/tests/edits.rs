@@ -12,14 +12,14 @@ fn expected(text: &[u8]) -> (u16, [u16; 4], usize) {
         Ok(Edit::Run(a, p, b, q)) => (1, [small(a), small(p), small(b), small(q)], taken),
         Ok(Edit::Out(k)) => (2, [small(k), 0, 0, 0], taken),
         Ok(Edit::Off(v)) => (3, [small(v), 0, 0, 0], taken),
-        Err(_) => (4, [0; 4], taken),
+        Err(_) => (5, [0; 4], taken),
     }
 }
 
 #[test]
 fn read_edit_agrees_on_lines_and_damaged_lines() {
     let random = &mut Random::new(21);
-    let mut kinds = [0; 5];
+    let mut kinds = [0; 6];
     for _ in 0..60_000 {
         let sheet = if random.one_in(50) { random_sheet(random) } else { reference::Sheet::fresh() };
         let mut text = edit_line(any_edit(random, &sheet));
@@ -36,7 +36,8 @@ fn read_edit_agrees_on_lines_and_damaged_lines() {
         kinds[answer.0 as usize] += 1;
         assert_eq!(answer, expected(&text), "{text:?}");
     }
-    assert!(kinds.iter().all(|&n| n > 500), "every kind occurs: {kinds:?}");
+    assert!(kinds[4] == 0, "no line is a load");
+    assert!([0, 1, 2, 3, 5].iter().all(|&kind| kinds[kind] > 500), "every kind occurs: {kinds:?}");
 }
 
 #[test]
@@ -50,7 +51,7 @@ fn read_edit_agrees_on_front_parts_and_special_lines() {
             assert_eq!(proved::read_edit(text), expected(text), "{text:?}");
         }
     }
-    assert_eq!(proved::read_edit(b""), (4, [0; 4], 0), "of no bytes it takes none and refuses");
+    assert_eq!(proved::read_edit(b""), (5, [0; 4], 0), "of no bytes it takes none and refuses");
 }
 
 #[test]

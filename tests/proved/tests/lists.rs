@@ -103,6 +103,20 @@ fn edits_agree_on_extremes_and_any_numbers() {
 }
 
 #[test]
+fn an_edit_of_another_kind_is_refused() {
+    let random = &mut Random::new(47);
+    let path = reference::generate::sheets::path(5);
+    let off = reference::apply(&path, Edit::Off(4));
+    assert_eq!(off.0, Ok(()));
+    assert!(proved::edit_by_kind(&path, 3, [4, 0, 0, 0]) == (0, off.1), "kind 3 is off");
+    let records = [path, Sheet::fresh(), random_sheet(random), Sheet::blank(77, usize::MAX)];
+    for kind in 4..=u16::MAX {
+        let (sheet, numbers) = (random.pick(&records), [random.below(6), random.below(6), random.below(6), random.below(6)]);
+        assert!(proved::edit_by_kind(&sheet, kind, numbers) == (1, sheet), "kind {kind} is refused 1 and changes nothing");
+    }
+}
+
+#[test]
 fn edits_and_drawings_refuse_records_that_are_not_sound() {
     let random = &mut Random::new(44);
     let mut refused = 0;

@@ -4,7 +4,7 @@ use mathlib.Core.Path.{_≡_, refl, sym, _∙_}
 use mathlib.Core.Bool.{true}
 use borrow.Author.Tests.{not-true, not-false}
 use Rattle.counting.specs.Below.{allBelow}
-use Rattle.clauses.specs.Arrays.{joinsAt}
+use Rattle.clauses.specs.Contracts.{joinsAt}
 use Rattle.counting.proofs.Below.{all-more, all-fails, all-over}
 use borrow.Author.Needs.{needs}
 use Rattle.clauses.proofs.all_join.Statement.{statement}

@@ -1,7 +1,7 @@
 -- `sheet::has_poles` meets its contract. The heads lack 0 alone, and the tails 1 alone. Assumes nothing.
 use mathlib.Core.Path.{refl, sym, _∙_}
 use borrow.Author.Tests.{not-true, not-false}
-use Rattle.clauses.specs.Arrays.{polesOf}
+use Rattle.clauses.specs.Contracts.{polesOf}
 use borrow.Author.Needs.{needs}
 use Rattle.clauses.proofs.has_poles.Statement.{statement}
 use Rattle.clauses.proofs.has_poles.Tie as tie

@@ -2,7 +2,7 @@
 use mathlib.Core.Path.{refl}
 use borrow.Author.Tests.{eq-eqb, ne-eqb}
 use lib.ListN.{getD}
-use Rattle.clauses.specs.Arrays.{rootedOf}
+use Rattle.clauses.specs.Contracts.{rootedOf}
 use borrow.Author.Needs.{needs}
 use Rattle.clauses.proofs.is_rooted.Statement.{statement}
 use Rattle.clauses.proofs.is_rooted.Tie as tie

@@ -3,7 +3,7 @@ use Prim.Native.Nat.{_≤_, _-_}
 use mathlib.Core.Path.{_≡_, ap, _∙_}
 use native.Mathlib.Omega.{arith}
 use Rattle.counting.specs.Below.{tabulate}
-use Rattle.clauses.specs.Arrays.{endOf}
+use Rattle.clauses.specs.Contracts.{endOf}
 use Rattle.clauses.proofs.Marks.{marks-none, marks-more}
 use borrow.Author.Needs.{needs}
 use Rattle.clauses.proofs.marked.Statement.{statement}

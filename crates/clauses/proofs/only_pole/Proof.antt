@@ -4,7 +4,7 @@ use mathlib.Core.Path.{_≡_, refl, sym}
 use mathlib.Core.Bool.{true, false}
 use native.Mathlib.Omega.{arith}
 use Rattle.counting.specs.Below.{allBelow}
-use Rattle.clauses.specs.Arrays.{poleAt}
+use Rattle.clauses.specs.Contracts.{poleAt}
 use Rattle.clauses.proofs.Marks.{pole-is}
 use Rattle.counting.proofs.Below.{all-more, all-fails, all-over}
 use borrow.Author.Needs.{needs}

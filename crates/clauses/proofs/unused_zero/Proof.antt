@@ -1,7 +1,7 @@
 -- `sheet::unused_zero` meets its contract. Three tables, one after the other. Assumes nothing.
 use mathlib.Core.Path.{refl, sym}
 use borrow.Author.Tests.{not-true, not-false}
-use Rattle.clauses.specs.Arrays.{unusedOf}
+use Rattle.clauses.specs.Contracts.{unusedOf}
 use Rattle.clauses.proofs.Below.{zero-read}
 use borrow.Author.Needs.{needs}
 use Rattle.clauses.proofs.unused_zero.Statement.{statement}

@@ -2,7 +2,7 @@
 use Prim.Native.Nat.{_≤_, _-_, _*_}
 use mathlib.Core.Path.{_≡_, ap, _∙_}
 use native.Mathlib.Omega.{arith}
-use Rattle.clauses.specs.Arrays.{dartTable, walkOf}
+use Rattle.clauses.specs.Contracts.{dartTable, walkOf}
 use Rattle.clauses.proofs.Below.{dart-none}
 use Rattle.clauses.proofs.Tables.{two-more, tail-walk, head-walk}
 use borrow.Author.Needs.{needs}

@@ -1,7 +1,7 @@
 -- `sheet::within_limits` meets its contract. Four tests. Assumes nothing.
 use mathlib.Core.Path.{refl}
 use borrow.Author.Tests.{le-leb, lt-leb}
-use Rattle.clauses.specs.Arrays.{limitsOf}
+use Rattle.clauses.specs.Contracts.{limitsOf}
 use Rattle.clauses.proofs.within_limits.Statement.{statement}
 use Rattle.clauses.proofs.within_limits.Tie as tie
 

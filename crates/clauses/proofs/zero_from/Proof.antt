@@ -5,7 +5,7 @@ use mathlib.Core.Bool.{true}
 use borrow.Author.Tests.{lt-ltb, le-ltb, eq-eqb, ne-eqb}
 use lib.ListN.{getD, length}
 use Rattle.counting.specs.Below.{allBelow}
-use Rattle.clauses.specs.Arrays.{zeroAt}
+use Rattle.clauses.specs.Contracts.{zeroAt}
 use Rattle.counting.proofs.Below.{all-of, all-more, all-fails, all-over}
 use borrow.Author.Needs.{needs}
 use Rattle.clauses.proofs.zero_from.Statement.{statement}

@@ -3,7 +3,7 @@ use mathlib.Core.Path.{_≡_}
 use Prim.Native.Nat.{suc, _-_, _≤_, _<_}
 use native.Mathlib.Omega.{arith}
 use borrow.Author.Needs.{needs}
-use Rattle.digraph.specs.Chains.{Chained}
+use Rattle.digraph.specs.Contracts.{Chained}
 use Rattle.digraph.proofs.Chaining.{unchained, chained-more}
 use Rattle.digraph.proofs.chain.Statement.{statement}
 use Rattle.digraph.proofs.chain.Tie as tie

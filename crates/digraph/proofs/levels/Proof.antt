@@ -6,7 +6,7 @@ use borrow.Author.Tests.{not-true, not-false}
 use borrow.Author.Needs.{needs}
 use Rattle.digraph.specs.Digraph.{Within, flat}
 use Rattle.digraph.specs.Relaxed.{withinOf}
-use Rattle.digraph.specs.Passes.{Listing, Settled}
+use Rattle.digraph.specs.Contracts.{Listing, Settled}
 use Rattle.digraph.proofs.Tests.{within-is}
 use Rattle.digraph.proofs.Relaxation.{outside, right}
 use Rattle.digraph.proofs.Settling.{start, acyclic, cyclic}

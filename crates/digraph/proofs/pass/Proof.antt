@@ -4,7 +4,7 @@ use Prim.Native.Nat.{_-_, _<_}
 use native.Mathlib.Omega.{arith}
 use lib.ListN.{getD, set}
 use borrow.Author.Needs.{needs}
-use Rattle.digraph.specs.Passes.{Listing, Settled}
+use Rattle.digraph.specs.Contracts.{Listing, Settled}
 use Rattle.digraph.proofs.Waits.{tail-in}
 use Rattle.digraph.proofs.Passing.{Turn, begin, low-level, edge-waits, end-in, end-room, next, finish}
 use Rattle.digraph.proofs.pass.Statement.{statement}

@@ -2,7 +2,7 @@
 use mathlib.Core.Path.{_≡_}
 use Prim.Native.Nat.{_-_, _<_}
 use native.Mathlib.Omega.{arith}
-use Rattle.digraph.specs.Passes.{Listing, Settled}
+use Rattle.digraph.specs.Contracts.{Listing, Settled}
 use Rattle.digraph.proofs.Waits.{tail-in}
 use Rattle.digraph.proofs.settle.Statement.{statement}
 use Rattle.digraph.proofs.settle.Tie as tie

@@ -3,7 +3,7 @@ use mathlib.Core.Path.{_≡_}
 use Prim.Native.Nat.{_-_, _≤_, _<_}
 use native.Mathlib.Omega.{arith}
 use borrow.Author.Needs.{needs}
-use Rattle.digraph.specs.Passes.{Queued}
+use Rattle.digraph.specs.Contracts.{Queued}
 use Rattle.digraph.proofs.Waits.{tail-in, queue-none, queue-next}
 use Rattle.digraph.proofs.sources.Statement.{statement}
 use Rattle.digraph.proofs.sources.Tie as tie

@@ -6,7 +6,7 @@ use native.Mathlib.Omega.{arith}
 use lib.ListN.{getD}
 use borrow.Author.Needs.{needs}
 use Rattle.counting.proofs.Counts.{count-le}
-use Rattle.digraph.specs.Passes.{into, Waiting}
+use Rattle.digraph.specs.Contracts.{into, Waiting}
 use Rattle.digraph.proofs.Waits.{waiting-none, waiting-more}
 use Rattle.digraph.proofs.waiting_edges.Statement.{statement}
 use Rattle.digraph.proofs.waiting_edges.Tie as tie

@@ -1,6 +1,6 @@
 -- `draw::compose` meets its contract. Assumes nothing.
 use mathlib.Core.Path.{refl}
-use Rattle.draw.specs.Tables.{drawingFrom}
+use Rattle.draw.specs.Contracts.{drawingFrom}
 use borrow.Author.Needs.{needs}
 use Rattle.draw.proofs.compose.Statement.{statement}
 use Rattle.draw.proofs.compose.Tie as tie

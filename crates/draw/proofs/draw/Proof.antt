@@ -8,15 +8,12 @@ use Rattle.sheet.specs.Check.{sound}
 use Rattle.soundness.proofs.Law.{sound-law}
 use Rattle.draw.proofs.Outcome.{not-sound, answered, faces-in, all-small, all-drawn}
 use borrow.Author.Needs.{needs}
-use Rattle.counting.proofs.Stores.{unmapped}
 use Rattle.draw.proofs.draw.Statement.{statement}
 use Rattle.draw.proofs.draw.Tie as tie
 
 -- the arrays have the lengths of their types
 sized : (c : tie.Start) → Sized (c .args .s)
-sized c = let s = c .args .s in
-    let arrays = c .good .0 .1 .1 .1 .1 in
-    record { tails = unmapped (s .tails) (arrays .0 .1 .0 .1); heads = unmapped (s .heads) (arrays .1 .0 .1 .0 .1); nexts = unmapped (s .nexts) (arrays .1 .1 .0 .1 .0 .1) }
+sized c = record { tails = search needs; heads = search needs; nexts = search needs }
 
 is-so : (c : tie.Else1) → sound (c .before .before .before .args .s) ≡ true
 is-so c = answered _ _ (c .before .before .examine .ensures) _ _ (c .before .is-accepted .ensures) (not-false _ (c .if1 .left))

@@ -4,7 +4,7 @@ use mathlib.Core.Path.{_≡_, refl}
 use native.Mathlib.Omega.{arith}
 use Rattle.sheet.specs.Sound.{Joins}
 use Rattle.drawing.specs.Draw.{noEdgeSegment}
-use Rattle.draw.specs.Tables.{table, edgeFrom}
+use Rattle.draw.specs.Contracts.{table, edgeFrom}
 use Rattle.draw.proofs.Filling.{table-none, table-more, table-over}
 use borrow.Author.Needs.{needs}
 use Rattle.draw.proofs.edge_segments.Statement.{statement}
@@ -21,10 +21,10 @@ joins : (c : tie.In-loop Inv-loop μ-loop) → Joins (c .before .before .args .t
 joins c = c .before .before .pre .joins (c .before .loop .k) (c .loop-test .taken)
 
 tail-in : (c : tie.After-wide Inv-loop μ-loop) → c .wide .result < 256
-tail-in c = omega (arith, c .wide .ensures .0, joins (c .before .before) .tail-in, c .before .before .before .before .pre .vertices-most)
+tail-in c = omega (arith, c .wide .ensures .0, joins (c .before .before) .tail-in, c .before .before .before .before .pre .limits .vertices-most)
 
 head-in : (c : tie.After-wide2 Inv-loop μ-loop) → c .wide2 .result < 256
-head-in c = omega (arith, c .wide2 .ensures .0, joins (c .before .before .before .before) .head-in, c .before .before .before .before .before .before .pre .vertices-most)
+head-in c = omega (arith, c .wide2 .ensures .0, joins (c .before .before .before .before) .head-in, c .before .before .before .before .before .before .pre .limits .vertices-most)
 
 loop-holds : tie.Need-loop-holds Inv-loop μ-loop
 loop-holds c = (search needs, table-none _ 256 noEdgeSegment)

@@ -1,7 +1,7 @@
 -- `draw::face_columns` meets its contract. Assumes nothing.
 use mathlib.Core.Path.{ap}
 use Rattle.digraph.specs.declared.Layering.{Layering}
-use Rattle.draw.specs.Tables.{faceColumns}
+use Rattle.draw.specs.Contracts.{faceColumns}
 use borrow.Author.Needs.{needs}
 use Rattle.draw.proofs.face_columns.Statement.{statement}
 use Rattle.draw.proofs.face_columns.Tie as tie

@@ -2,7 +2,7 @@
 use Prim.Native.Nat.{_-_, _≤_}
 use mathlib.Core.Path.{_≡_, refl}
 use native.Mathlib.Omega.{arith}
-use Rattle.draw.specs.Tables.{table, sideFace, sides}
+use Rattle.draw.specs.Contracts.{table, sideFace, sides}
 use Rattle.draw.proofs.Filling.{table-none, table-more, table-over}
 use borrow.Author.Needs.{needs}
 use Rattle.draw.proofs.side_faces.Statement.{statement}

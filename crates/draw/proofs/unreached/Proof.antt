@@ -3,7 +3,7 @@ use Prim.Native.Nat.{_-_, _≤_}
 use mathlib.Core.Path.{_≡_, refl}
 use native.Mathlib.Omega.{arith}
 use Rattle.drawing.specs.Draw.{noVertexSegment}
-use Rattle.draw.specs.Tables.{table, unreachedFrom}
+use Rattle.draw.specs.Contracts.{table, unreachedFrom}
 use Rattle.draw.proofs.Filling.{table-none, table-more, table-over}
 use borrow.Author.Needs.{needs}
 use Rattle.draw.proofs.unreached.Statement.{statement}

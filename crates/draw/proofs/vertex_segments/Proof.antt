@@ -4,7 +4,7 @@ use mathlib.Core.Path.{_≡_, _∙_}
 use native.Mathlib.Omega.{arith}
 use Rattle.sheet.specs.Sound.{Joins}
 use Rattle.drawing.specs.Draw.{noVertexSegment}
-use Rattle.draw.specs.Tables.{table, vertexFrom}
+use Rattle.draw.specs.Contracts.{table, vertexFrom}
 use Rattle.draw.proofs.Filling.{table-agree}
 use Rattle.draw.proofs.Widening.{reached-none, widened-more}
 use borrow.Author.Needs.{needs}
@@ -25,10 +25,10 @@ joins : (c : tie.In-loop Inv-loop μ-loop) → Joins (c .before .before .before 
 joins c = c .before .before .before .pre .joins (c .before .loop .k) (c .loop-test .taken)
 
 tail-in : (c : tie.After-wide Inv-loop μ-loop) → c .wide .result < 128
-tail-in c = omega (arith, c .wide .ensures .0, joins (c .before .before) .tail-in, c .before .before .before .before .before .pre .vertices-most)
+tail-in c = omega (arith, c .wide .ensures .0, joins (c .before .before) .tail-in, c .before .before .before .before .before .pre .limits .vertices-most)
 
 head-in : (c : tie.After-wide2 Inv-loop μ-loop) → c .wide2 .result < 128
-head-in c = omega (arith, c .wide2 .ensures .0, joins (c .before .before .before .before .before .before .before) .head-in, c .before .before .before .before .before .before .before .before .before .before .pre .vertices-most)
+head-in c = omega (arith, c .wide2 .ensures .0, joins (c .before .before .before .before .before .before .before) .head-in, c .before .before .before .before .before .before .before .before .before .before .pre .limits .vertices-most)
 
 loop-holds : tie.Need-loop-holds Inv-loop μ-loop
 loop-holds c = (search needs, c .unreached .ensures ∙ table-agree _ 128 noVertexSegment _ _ (λ v _. reached-none _ _ _ v))

@@ -1,4 +1,5 @@
 use borrow.Author.Tests.{eq-eqb, ne-eqb}
+use Rattle.edit.specs.Calls.{apply}
 use Rattle.exports.specs.Edits.{editBy}
 use borrow.Author.Needs.{needs}
 use Rattle.exports.proofs.edit_by.Statement.{statement}
@@ -30,7 +31,18 @@ take-out-vertex-requires c κs = search needs
 
 returns-4 : tie.Need-returns-4
 unfolding editBy
-returns-4 c = rw (ne-eqb _ _ (c .before .before .before .if1 .left), ne-eqb _ _ (c .before .before .if2 .left), ne-eqb _ _ (c .before .if3 .left)) (c .take-out-vertex .ensures)
+returns-4 c =
+    rw (ne-eqb _ _ (c .before .before .before .before .if1 .left), ne-eqb _ _ (c .before .before .before .if2 .left), ne-eqb _ _ (c .before .before .if3 .left), eq-eqb _ _ (c .before .if4 .taken))
+    (c .take-out-vertex .ensures)
+
+refuse-requires : tie.Need-refuse-requires
+refuse-requires c κs = search needs
+
+returns-5 : tie.Need-returns-5
+unfolding editBy apply
+returns-5 c =
+    rw (ne-eqb _ _ (c .before .before .before .before .if1 .left), ne-eqb _ _ (c .before .before .before .if2 .left), ne-eqb _ _ (c .before .before .if3 .left), ne-eqb _ _ (c .before .if4 .left))
+    (c .refuse .ensures)
 
 pub edit-by-spec : {M : Type 1} → statement M
 edit-by-spec =
@@ -43,4 +55,6 @@ edit-by-spec =
     take-out-edge-requires
     returns-3
     take-out-vertex-requires
-    returns-4)
+    returns-4
+    refuse-requires
+    returns-5)

@@ -1,7 +1,7 @@
 use mathlib.Core.Path.{ap, _∙_}
 use borrow.Author.Needs.{needs}
 use Rattle.answers.specs.Answers.{refusalNumber}
-use Rattle.format.specs.declared.Loaded.{Loaded}
+use Rattle.load.specs.declared.Loaded.{Loaded}
 use Rattle.exports.proofs.walnut_load.Statement.{statement}
 use Rattle.exports.proofs.walnut_load.Tie as tie
 

@@ -1,9 +1,12 @@
 use mathlib.Core.Path.{ap, _∙_}
 use borrow.Author.Needs.{needs}
 use Rattle.answers.specs.Answers.{refusalNumber}
-use Rattle.write.specs.declared.Written.{Written}
+use Rattle.writesheet.specs.declared.Written.{Written}
 use Rattle.exports.proofs.walnut_write_sheet.Statement.{statement}
 use Rattle.exports.proofs.walnut_write_sheet.Tie as tie
+
+sheet-of-requires : tie.Need-sheet-of-requires
+sheet-of-requires c κs = search needs
 
 write-sheet-requires : tie.Need-write-sheet-requires
 write-sheet-requires c κs = search needs
@@ -16,7 +19,8 @@ same-length c = search needs
 
 returns : tie.Need-returns
 returns c =
-    let written = c .before .before .before .write-sheet .ensures in
+    let same = c .before .before .before .before .before .sheet-of .ensures in
+    let written = rw same at (c .before .before .before .write-sheet .ensures) in
     record {
       answer = c .refusal-number .ensures ∙ ap (λ (w : Written). refusalNumber (w .answer)) (written .0);
       bytes = ap (λ (w : Written). w .count) (written .0);
@@ -25,4 +29,4 @@ returns c =
 
 pub walnut-write-sheet-spec : {M : Type 1} → statement M
 walnut-write-sheet-spec =
-    tie.close (tie.spec write-sheet-requires refusal-number-requires same-length returns)
+    tie.close (tie.spec sheet-of-requires write-sheet-requires refusal-number-requires same-length returns)

@@ -1,18 +1,17 @@
 -- `run::add_edge` meets its contract. Two darts come in. Assumes nothing.
 use mathlib.Core.Path.{_≡_, refl}
 use lib.ListN.{length}
-use Rattle.counting.proofs.Stores.{unmapped}
+use Rattle.clauses.specs.Darts.{dartOf}
 use Rattle.run.proofs.Corners.{inserted-size}
 use Rattle.sheet.specs.Darts.{dartAt}
 use Rattle.edit.specs.Changes.{runEdge}
-use Rattle.run.specs.Corners.{dartOf}
 use borrow.Author.Needs.{needs}
 use Rattle.run.proofs.add_edge.Statement.{statement}
 use Rattle.run.proofs.add_edge.Tie as tie
 
 -- the array has the length of its type
 nexts-size : (c : tie.Start) → length (c .args .s .nexts) ≡ 512
-nexts-size c = unmapped (c .args .s .nexts) (c .good .0 .1 .1 .1 .1 .1 .1 .0 .1 .0 .1)
+nexts-size c = search needs
 
 dart-at-requires : tie.Need-dart-at-requires
 dart-at-requires c κs = search needs
@@ -63,7 +62,7 @@ add-t16 : tie.Need-add-t16
 add-t16 c = search needs
 
 returns : tie.Need-returns
-unfolding runEdge dartAt dartOf
+unfolding runEdge dartOf
 returns c = let inserted = c .before .before in
     let second = inserted .before .before in
     let first = second .before .before in

@@ -3,7 +3,7 @@ use mathlib.Core.Path.{_∙_, ap}
 use Prim.Native.Nat.{ℕ}
 use lib.ListN.{getD}
 use Rattle.clauses.specs.Darts.{opposite}
-use Rattle.run.specs.Corners.{cornerOf}
+use Rattle.run.specs.Contracts.{cornerOf}
 use borrow.Author.Needs.{needs}
 use Rattle.run.proofs.corner.Statement.{statement}
 use Rattle.run.proofs.corner.Tie as tie

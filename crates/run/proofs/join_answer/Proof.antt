@@ -4,15 +4,16 @@ use mathlib.Core.Path.{_≡_, sym, _∙_}
 use mathlib.Core.Bool.{true}
 use native.Mathlib.Omega.{arith}
 use borrow.Author.Tests.{not-true, not-false}
+use Rattle.clauses.specs.Darts.{touchesOf}
 use Rattle.soundness.proofs.Law.{sound-law}
-use Rattle.run.specs.Corners.{touchesOf, cornerOf}
+use Rattle.run.specs.Contracts.{cornerOf}
 use Rattle.run.proofs.Answers.{first-apart, second-apart, corners-apart, same-vertex, closes, no-room, accepted}
 use Rattle.run.proofs.join_answer.Statement.{statement}
 use Rattle.run.proofs.join_answer.Tie as tie
 
 -- there are no more edges than the arrays hold
 edges-few : (c : tie.Start) → c .args .s .edges ≤ 256
-edges-few c = sound-law (c .args .s) (c .pre .0 .sized) .0 (c .pre .0 .accepted) .edges-most
+edges-few c = sound-law (c .args .s) (c .pre .0 .sized) .0 (c .pre .0 .accepted) .limits .edges-most
 
 abbrev start1 : tie.Else1 → tie.Start
 start1 c = c .before .before .before .before .before .before

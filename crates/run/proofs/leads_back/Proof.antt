@@ -15,10 +15,10 @@ returns c = let a = c .before .args in sym (from-root (a .s) (a .a) (a .b) (c .b
 
 -- both are vertices
 in-a : (c : tie.Else1) → c .before .args .a < 256
-in-a c = let p = c .before .pre .0 in omega (arith, p .a-in, p .sound .vertices-most)
+in-a c = let p = c .before .pre .0 in omega (arith, p .a-in, p .sound .limits .vertices-most)
 
 in-b : (c : tie.Else1) → c .before .args .b < 256
-in-b c = let p = c .before .pre .0 in omega (arith, p .b-in, p .sound .vertices-most)
+in-b c = let p = c .before .pre .0 in omega (arith, p .b-in, p .sound .limits .vertices-most)
 
 mul-if2 : tie.Need-mul-if2
 mul-if2 c = omega (arith, in-a c)

@@ -1,14 +1,14 @@
 -- `run::run` meets its contract. By its answer. Assumes nothing.
 use Rattle.sheet.specs.Darts.{Sized}
 use Rattle.edit.specs.Changes.{runEdge}
-use Rattle.change.proofs.Outcomes.{refused-edit, was-accepted, accepted-edit}
-use Rattle.run.proofs.Answers.{sized-by, given}
+use Rattle.edit.proofs.Outcomes.{refused-edit, was-accepted, accepted-edit}
+use Rattle.run.proofs.Answers.{given}
 use borrow.Author.Needs.{needs}
 use Rattle.run.proofs.run.Statement.{statement}
 use Rattle.run.proofs.run.Tie as tie
 
 sized : (c : tie.Start) → Sized (c .args .s)
-sized c = let arrays = c .good .0 .1 .1 .1 .1 in sized-by (c .args .s) (arrays .0 .1 .0 .1) (arrays .1 .0 .1 .0 .1) (arrays .1 .1 .0 .1 .0 .1)
+sized c = record { tails = search needs; heads = search needs; nexts = search needs }
 
 run-answer-requires : tie.Need-run-answer-requires
 run-answer-requires c κs = search needs

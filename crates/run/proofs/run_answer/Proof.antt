@@ -4,13 +4,13 @@ use mathlib.Core.Bool.{true}
 use borrow.Author.Tests.{not-true, not-false}
 use Rattle.sheet.specs.Darts.{Sized}
 use Rattle.sheet.specs.Check.{sound}
-use Rattle.run.proofs.Answers.{not-sound, no-start, no-end, no-first, no-second, found-sound, found-faces, found-rows, sized-by}
+use Rattle.run.proofs.Answers.{not-sound, no-start, no-end, no-first, no-second, found-sound, found-faces, found-rows}
 use borrow.Author.Needs.{needs}
 use Rattle.run.proofs.run_answer.Statement.{statement}
 use Rattle.run.proofs.run_answer.Tie as tie
 
 sized : (c : tie.Start) → Sized (c .args .s)
-sized c = let arrays = c .good .0 .1 .1 .1 .1 in sized-by (c .args .s) (arrays .0 .1 .0 .1) (arrays .1 .0 .1 .0 .1) (arrays .1 .1 .0 .1 .0 .1)
+sized c = record { tails = search needs; heads = search needs; nexts = search needs }
 
 abbrev start1 : tie.Else1 → tie.Start
 start1 c = c .before .before .before

@@ -3,8 +3,8 @@ use mathlib.Core.Path.{refl}
 use native.Mathlib.Omega.{arith}
 use borrow.Author.Tests.{eq-eqb, ne-eqb}
 use lib.ListN.{getD}
-use Rattle.run.specs.Corners.{touchesOf}
 use borrow.Author.Needs.{needs}
+use Rattle.clauses.specs.Darts.{touchesOf}
 use Rattle.run.proofs.touches.Statement.{statement}
 use Rattle.run.proofs.touches.Tie as tie
 

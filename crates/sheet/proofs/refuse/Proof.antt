@@ -1,6 +1,6 @@
 -- `sheet::refuse` meets its contract. By computing. Assumes nothing.
 use mathlib.Core.Path.{refl}
-use Rattle.sheet.specs.Findings.{refused}
+use Rattle.sheet.specs.Contracts.{refused}
 use Rattle.sheet.proofs.refuse.Statement.{statement}
 use Rattle.sheet.proofs.refuse.Tie as tie
 

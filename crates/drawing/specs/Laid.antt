@@ -1,0 +1,54 @@
+-- The drawing as 'Rows, columns and the drawing' lays it down, with no definition that computes; and the law to the one that does.
+use Prim.Native.Nat.{ℕ, _+_, _≤_, _<_}
+use mathlib.Core.Path.{_≡_}
+use mathlib.Core.Logic.{_⊎_, _↔_}
+use lib.ListN.{length}
+use Rattle.sheet.specs.declared.Sheet.{Sheet}
+use Rattle.sheet.specs.Darts.{tail, head}
+use Rattle.sheet.specs.Sound.{Sound, Faces}
+use Rattle.sheet.specs.Levels.{Row, Column, leftFace}
+use Rattle.drawing.specs.declared.Drawing.{Drawing}
+use Rattle.drawing.specs.Draw.{noVertexSegment, noEdgeSegment, drawingOf}
+use Rattle.drawing.specs.Points.{vertexOf, edgeOf}
+
+-- wire k is one of the wires of bar v: its tail or its head is the bar
+abbrev pub EdgeAt : Sheet → ℕ → ℕ → Type 0
+EdgeAt s v k = (k < s .edges) × ((tail s k ≡ v) ⊎ (head s k ≡ v))
+
+-- c is the least column of the wires of bar v
+pub record LeastColumn (s : Sheet) (D : Drawing) (v c : ℕ) : Type 0 where
+  pub edge : ℕ
+  pub edge-at : EdgeAt s v edge
+  pub stands : edgeOf D edge .column ≡ c
+  pub least : (k : ℕ) → EdgeAt s v k → c ≤ edgeOf D k .column
+
+-- c is the greatest column of the wires of bar v
+pub record GreatestColumn (s : Sheet) (D : Drawing) (v c : ℕ) : Type 0 where
+  pub edge : ℕ
+  pub edge-at : EdgeAt s v edge
+  pub stands : edgeOf D edge .column ≡ c
+  pub greatest : (k : ℕ) → EdgeAt s v k → edgeOf D k .column ≤ c
+
+pub record Laid (s : Sheet) (D : Drawing) : Type 0 where
+  -- Row of a bar: the most wires on a directed path from bar 0 to it.
+  pub row : (v : ℕ) → v < s .vertices → Row s v (vertexOf D v .row)
+  -- A wire stands in the column of its left face, however the faces are numbered,
+  pub column : (face : ℕ → ℕ) (f : ℕ) → Faces s face f → (k : ℕ) → k < s .edges → Column s face (leftFace face k) (edgeOf D k .column)
+  -- from its tail's row to its head's row.
+  pub low : (k : ℕ) → k < s .edges → edgeOf D k .low ≡ vertexOf D (tail s k) .row
+  pub high : (k : ℕ) → k < s .edges → edgeOf D k .high ≡ vertexOf D (head s k) .row
+  -- A bar lies in its row, from the least to the greatest column of its wires.
+  pub first : (v : ℕ) → v < s .vertices → LeastColumn s D v (vertexOf D v .first)
+  pub last : (v : ℕ) → v < s .vertices → GreatestColumn s D v (vertexOf D v .last)
+  -- Rows are the row of bar 1 plus 1; columns are the column of the left face of wire 0 plus 1.
+  pub rows : D .rows ≡ vertexOf D 1 .row + 1
+  pub columns : D .columns ≡ edgeOf D 0 .column + 1
+  -- an entry for each of 128 bars and 256 wires; unused entries 0
+  pub vertex-entries : length (D .vertices) ≡ 128
+  pub edge-entries : length (D .edges) ≡ 256
+  pub unused-vertices : (v : ℕ) → s .vertices ≤ v → vertexOf D v ≡ noVertexSegment
+  pub unused-edges : (k : ℕ) → s .edges ≤ k → edgeOf D k ≡ noEdgeSegment
+
+-- Of a sound sheet it leaves no choice.
+abbrev pub Laid-Law : Type 0
+Laid-Law = (s : Sheet) → Sound s → (D : Drawing) → Laid s D ↔ D ≡ drawingOf s

@@ -1,0 +1,4 @@
+pub mod Described
+pub mod Lists
+pub mod Table
+pub mod Torus

@@ -1,0 +1,4 @@
+pub mod Described
+pub mod Plates
+pub mod Printed
+pub mod Torus

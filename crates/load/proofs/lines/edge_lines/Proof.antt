@@ -1,0 +1,116 @@
+use Prim.Native.Nat.{ℕ, _≤_, _<_, _-_}
+use mathlib.Core.Path.{_≡_, refl, sym, _∙_}
+use lib.ListN.{length, length-set}
+use native.Mathlib.Omega.{arith}
+use borrow.Author.Tests.{not-true, not-false}
+use Rattle.text.specs.declared.Pair.the-variants.{Two}
+use Rattle.text.specs.Reading.{lineAt}
+use Rattle.text.specs.Shapes.{pairOf}
+use Rattle.text.specs.Keys.{wireKey}
+use Rattle.answers.specs.declared.Answer.the-variants.{BadLayout, BadEdge}
+use Rattle.load.specs.Load.{edgeLines}
+use Rattle.sheet.specs.Darts.{sheetOf}
+use Rattle.load.specs.Contracts.{noNexts, Joint}
+use Rattle.load.proofs.Turns.{edges-refused, edges-next, edges-over, edge-line-bad, edge-bad, edge-good, joint-more}
+use borrow.Author.Needs.{needs}
+use Rattle.load.proofs.lines.edge_lines.Statement.{statement}
+use Rattle.load.proofs.lines.edge_lines.Tie as tie
+
+abbrev Inv-loop : tie.InvT-loop
+Inv-loop text start n m tails₀ heads₀ at₀ k₀ t13 tails heads at k =
+    (k ≤ m) × (edgeLines (m - k) text (sheetOf n m tails heads noNexts) k at ≡ edgeLines m text (sheetOf n m tails₀ heads₀ noNexts) 0 start)
+    × ((i : ℕ) → i < k → Joint n tails heads i) × (length tails ≡ 256) × (length heads ≡ 256)
+
+abbrev μ-loop : tie.MeasureT-loop
+μ-loop text start n m tails₀ heads₀ at₀ k₀ t13 tails heads at k = m - k
+
+loop-holds : tie.Need-loop-holds Inv-loop μ-loop
+loop-holds c =
+    let z : c .before .args .m - 0 ≡ c .before .args .m = omega arith in
+    (search needs, rw z refl, (λ i l. absurd (omega arith)), search needs, search needs)
+
+slice-aggregate-pair-line : tie.Need-slice-aggregate-pair-line Inv-loop μ-loop
+slice-aggregate-pair-line c = search needs
+
+pair-line-requires : tie.Need-pair-line-requires Inv-loop μ-loop
+pair-line-requires c κs = search needs
+
+enum-told : tie.Need-enum-told Inv-loop μ-loop
+enum-told c = search needs
+
+returns : tie.Need-returns Inv-loop μ-loop
+returns c =
+    let line = c .before .before in
+    let loop = line .before .before .before in
+    edges-refused _ _ _ _ _ _ _ _ BadLayout (edge-line-bad _ _ _ _ _ _ _ _ (loop .loop .inv .1) (line .before .before .loop-test .taken) (sym (line .pair-line .ensures) ∙ c .enum-told .given .1))
+
+enum-known-read : tie.Need-enum-known-read Inv-loop μ-loop
+enum-known-read c = search needs
+
+joins-requires : tie.Need-joins-requires Inv-loop μ-loop
+joins-requires c κs = search needs
+
+-- the two numbers of the line
+pair : (c : tie.After-read Inv-loop μ-loop) → pairOf (lineAt wireKey (c .before .before .before .before .before .before .before .args .text .now) (c .before .before .before .before .before .loop .at)) ≡ Two (c .read .given .0 .0) (c .read .given .0 .1 .0) (c .read .given .0 .1 .1 .0)
+pair c = sym (c .before .before .pair-line .ensures) ∙ c .read .given .1
+
+returns-2 : tie.Need-returns-2 Inv-loop μ-loop
+returns-2 c =
+    let read = c .before .before .before in
+    let line = read .before .before in
+    let loop = line .before .before .before in
+    edges-refused _ _ _ _ _ _ _ _ BadEdge (edge-bad _ _ _ _ _ _ _ _ (loop .loop .inv .1) (line .before .before .loop-test .taken) _ _ _ (pair read) (sym (c .before .joins .ensures) ∙ not-true _ (c .if1 .taken)))
+
+mul-tails : tie.Need-mul-tails Inv-loop μ-loop
+mul-tails c = search needs
+
+element-write-tails : tie.Need-element-write-tails Inv-loop μ-loop
+element-write-tails c = search needs
+
+mul-heads : tie.Need-mul-heads Inv-loop μ-loop
+mul-heads c = search needs
+
+element-write-heads : tie.Need-element-write-heads Inv-loop μ-loop
+element-write-heads c = search needs
+
+add-k : tie.Need-add-k Inv-loop μ-loop
+add-k c = search needs
+
+loop-less : tie.Need-loop-less Inv-loop μ-loop
+loop-less c = search needs
+
+loop-again : tie.Need-loop-again Inv-loop μ-loop
+loop-again c =
+    let read = c .before .before .before in
+    let line = read .before .before in
+    let loop = line .before .before .before in
+    let test = sym (c .before .joins .ensures) ∙ not-false _ (c .if1 .left) in
+    (search needs, edge-good _ _ _ _ _ _ _ _ (loop .loop .inv .1) (line .before .before .loop-test .taken) _ _ _ (pair read) test, joint-more _ _ _ _ _ _ (omega arith) (omega arith) test (loop .loop .inv .2), simp length-set (loop .loop .inv .3), simp length-set (loop .loop .inv .4))
+
+returns-3 : tie.Need-returns-3 Inv-loop μ-loop
+returns-3 c =
+    let loop = c .before in
+    edges-next _ _ _ _ _ _ _ _ _ (edges-over _ _ _ _ _ _ _ _ (loop .loop .inv .1) (c .loop-test .left)) (λ k l. loop .loop .inv .2 k (omega arith))
+
+pub edge-lines-spec : {M : Type 1} → statement M
+edge-lines-spec =
+    tie.close
+    (tie.spec
+    Inv-loop
+    μ-loop
+    loop-holds
+    slice-aggregate-pair-line
+    pair-line-requires
+    enum-told
+    returns
+    enum-known-read
+    joins-requires
+    returns-2
+    mul-tails
+    element-write-tails
+    mul-heads
+    element-write-heads
+    add-k
+    loop-less
+    loop-again
+    returns-3)

@@ -1,0 +1,107 @@
+// Sheets as text: load.
+ghost use mathlib.Core.Path.{_≡_};
+ghost use Prim.Native.Nat.{ℕ, _≤_, _<_};
+ghost use Rattle.load.specs.Load.{refused, emptySheet, judged, ringLines, edgeLines, loaded, load};
+ghost use Rattle.sheet.specs.Darts.{sheetOf};
+ghost use Rattle.load.specs.Contracts.{noNexts, Joint};
+use answers::Answer;
+use lines::Count;
+use lines::Step;
+use sheet::Sheet;
+
+mod lines;
+mod rings;
+
+// What load answers: the sheet, and how many bytes of the text it took.
+pub struct Loaded {
+    pub answer: Answer,
+    pub sheet: Sheet,
+    pub taken: usize,
+}
+
+// A refused load: the present sheet comes back, and 0 bytes are taken.
+fn refuse(answer: Answer, present: Sheet) -> Loaded
+    ensures { λ r. ⌜ r ≡ loaded present (refused answer) ⌝ }
+{
+    Loaded {
+        answer,
+        sheet: present,
+        taken: 0,
+    }
+}
+
+// After the last line: the rules on the whole sheet.
+fn load_judged(s: Sheet, next: usize, present: Sheet) -> Loaded
+    ensures { λ r. ⌜ r ≡ loaded present (judged s next) ⌝ }
+{
+    let answer = sheet::judge(s);
+    if !answers::is_accepted(answer) {
+        return refuse(answer, present);
+    }
+    Loaded {
+        answer: Answer::Accepted,
+        sheet: s,
+        taken: next,
+    }
+}
+
+// From the first line `around=` on.
+fn load_rings(
+    text: &[u8],
+    at: usize,
+    n: usize,
+    m: usize,
+    tails: [u16; 256],
+    heads: [u16; 256],
+    present: Sheet,
+) -> Loaded
+    requires { ⌜ (n ≤ 128) × (m ≤ 256) × ((k : ℕ) → k < m → Joint n tails heads k) ⌝ }
+    ensures { λ r. ⌜ r ≡ loaded present (ringLines n (now (text .entry)) (sheetOf n m tails heads noNexts) 0 at) ⌝ }
+{
+    let mut nexts = [0u16; 512];
+    let step = rings::ring_lines(text, at, n, m, &tails, &heads, &mut nexts);
+    match step {
+        Step::Refused(answer) => refuse(answer, present),
+        Step::Next(next) => {
+            let s = Sheet {
+                vertices: n,
+                edges: m,
+                tails,
+                heads,
+                nexts,
+            };
+            load_judged(s, next, present)
+        }
+    }
+}
+
+// From the first line `wire=` on.
+fn load_edges(text: &[u8], at: usize, n: usize, m: usize, present: Sheet) -> Loaded
+    requires { ⌜ (n ≤ 128) × (m ≤ 256) ⌝ }
+    ensures { λ r. ⌜ r ≡ loaded present (edgeLines m (now (text .entry)) (emptySheet n m) 0 at) ⌝ }
+{
+    let mut tails = [0u16; 256];
+    let mut heads = [0u16; 256];
+    let step = lines::edge_lines(text, at, n, m, &mut tails, &mut heads);
+    match step {
+        Step::Refused(answer) => refuse(answer, present),
+        Step::Next(next) => load_rings(text, next, n, m, tails, heads, present),
+    }
+}
+
+// Reads a sheet from the front of the text, and tells how many bytes it took.
+pub fn load(text: &[u8], present: Sheet) -> Loaded
+    ensures { λ r. ⌜ r ≡ load (now (text .entry)) present ⌝ }
+{
+    let bars = lines::count_line(text, 0, b"bars=", 128);
+    match bars {
+        Count::Refused(answer) => refuse(answer, present),
+        Count::Value(n, next) => {
+            let wires = lines::count_line(text, next, b"wires=", 256);
+            match wires {
+                Count::Refused(answer) => refuse(answer, present),
+                Count::Value(m, after) => load_edges(text, after, n, m, present),
+            }
+        }
+    }
+}

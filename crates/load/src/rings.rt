@@ -1,0 +1,225 @@
+// The lines `around=`: the edges of each vertex clockwise, read into the next-darts.
+ghost use mathlib.Core.Path.{_≡_};
+ghost use Prim.Native.Nat.{ℕ, _≤_, _<_};
+ghost use mathlib.Core.List.{[]};
+ghost use lib.ListN.{getD};
+ghost use Rattle.clauses.specs.Darts.{touchesOf};
+ghost use Rattle.counting.specs.Counts.{count};
+ghost use Rattle.text.specs.Reading.{numberAt, listed, closed};
+ghost use Rattle.load.specs.Contracts.{Joint, dartIf, edgeOf, marksOf, firstOf, linkOf, isListed, refusalOf, restAt, ringedBy, ringEnd, RingRead, RingsRead};
+use crate::lines::Step;
+use answers::Answer;
+use counting::wide;
+use text::Number;
+
+// A number of a line: the dart of an edge at the line's vertex and the place after the number;
+// the place after one of an edge that may not stand there; or no number.
+enum Entry {
+    Edge(usize, usize),
+    Unfit(usize),
+    Absent,
+}
+
+// How many of m edges have an end at each vertex.
+fn degrees(m: usize, tails: &[u16; 256], heads: &[u16; 256]) -> [u16; 128]
+    requires { ⌜ (m ≤ 256) × ((k : ℕ) → k < m → Joint 128 (now tails) (now heads) k) ⌝ }
+    ensures { λ r. ⌜ ((v : ℕ) → v < 128 → getD r v 0 ≡ count (λ k. touchesOf (now (tails .entry)) (now (heads .entry)) k v) m) ⌝ }
+{
+    let mut degree = [0u16; 128];
+    let mut k = 0;
+    while k < m {
+        let tail = wide(tails[k]);
+        degree[tail] += 1;
+        let head = wide(heads[k]);
+        degree[head] += 1;
+        k += 1;
+    }
+    degree
+}
+
+// The dart of edge w at vertex v; 512 where w may not stand on v's line: it has no end there, or stood on the line before.
+fn dart_at(
+    w: usize,
+    v: usize,
+    m: usize,
+    tails: &[u16; 256],
+    heads: &[u16; 256],
+    seen: &[u16; 256],
+) -> usize
+    requires { ⌜ (m ≤ 256) × (v < 128) ⌝ }
+    ensures { λ r. ⌜ r ≡ dartIf m (now (tails .entry)) (now (heads .entry)) v (now (seen .entry)) w ⌝ }
+{
+    if m <= w {
+        return 512;
+    }
+    if wide(seen[w]) == v + 1 {
+        return 512;
+    }
+    if wide(tails[w]) == v {
+        return 2 * w;
+    }
+    if wide(heads[w]) == v {
+        return 2 * w + 1;
+    }
+    512
+}
+
+// The edge whose number stands at a place of v's line, marked as seen on it if it may stand there.
+fn edge_at(
+    text: &[u8],
+    at: usize,
+    v: usize,
+    m: usize,
+    tails: &[u16; 256],
+    heads: &[u16; 256],
+    seen: &mut [u16; 256],
+) -> Entry
+    requires { ⌜ (m ≤ 256) × (v < 128) ⌝ }
+    ensures { λ r. ⌜ (r ≡ edgeOf m (now (tails .entry)) (now (heads .entry)) v (now (seen .entry)) (numberAt (now (text .entry)) at))
+        × (now (seen .exit) ≡ marksOf m (now (tails .entry)) (now (heads .entry)) v (now (seen .entry)) (numberAt (now (text .entry)) at)) ⌝ }
+{
+    let read = text::number_at(text, at);
+    match read {
+        Number::Missing => Entry::Absent,
+        Number::Value(value, next) => {
+            let w = wide(value);
+            let dart = dart_at(w, v, m, tails, heads, seen);
+            if dart == 512 {
+                return Entry::Unfit(next);
+            }
+            seen[w] = (v + 1) as u16;
+            Entry::Edge(dart, next)
+        }
+    }
+}
+
+// Links a dart behind the last of `count` darts, and tells the first of them all.
+fn link(count: usize, first: usize, last: usize, dart: usize, nexts: &mut [u16; 512]) -> usize
+    requires { ⌜ (last < 512) × (dart < 512) ⌝ }
+    ensures { λ r. ⌜ (r ≡ firstOf count first dart) × (now (nexts .exit) ≡ linkOf count last dart (now (nexts .entry))) ⌝ }
+{
+    if count == 0 {
+        return dart;
+    }
+    nexts[last] = dart as u16;
+    first
+}
+
+// Whether the rest of a line has its shape from the end of a number on: a comma and more numbers, or none, and the line's end.
+fn rest_shaped(text: &[u8], at: usize) -> bool
+    ensures { λ r. ⌜ r ≡ isListed (closed (now (text .entry)) (restAt (now (text .entry)) at)) ⌝ }
+{
+    if text::byte(text, at) != 44 {
+        return text::line_end(text, at) != 0;
+    }
+    let read = text::numbers_at(text, at + 1);
+    if !read.found {
+        return false;
+    }
+    text::line_end(text, read.next) != 0
+}
+
+// The refusal of a line with an edge that may not stand there, whose number ends at a place: shape comes first.
+fn unfit(text: &[u8], at: usize) -> Answer
+    ensures { λ r. ⌜ r ≡ refusalOf (closed (now (text .entry)) (restAt (now (text .entry)) at)) ⌝ }
+{
+    if !rest_shaped(text, at) {
+        return Answer::BadLayout;
+    }
+    Answer::BadRotation
+}
+
+// The end of a line of `count` edges of v, which has `degree` of them: the last dart is linked to the first.
+fn ring_end(
+    text: &[u8],
+    at: usize,
+    degree: usize,
+    count: usize,
+    first: usize,
+    last: usize,
+    nexts: &mut [u16; 512],
+) -> Step
+    requires { ⌜ (first < 512) × (last < 512) ⌝ }
+    ensures { λ r. ⌜ ringedBy (now (nexts .exit)) r ≡ ringEnd degree count first last (now (nexts .entry)) (closed (now (text .entry)) (listed [] at)) ⌝ }
+{
+    let end = text::line_end(text, at);
+    if end == 0 {
+        return Step::Refused(Answer::BadLayout);
+    }
+    if count != degree {
+        return Step::Refused(Answer::BadRotation);
+    }
+    nexts[last] = first as u16;
+    Step::Next(at + end)
+}
+
+// The line of v, which has `degree` edges: each number is an edge of v that did not stand there before, and its dart is linked.
+fn ring_line(
+    text: &[u8],
+    start: usize,
+    degree: usize,
+    v: usize,
+    m: usize,
+    tails: &[u16; 256],
+    heads: &[u16; 256],
+    seen: &mut [u16; 256],
+    nexts: &mut [u16; 512],
+) -> Step
+    requires { ⌜ (m ≤ 256) × (v < 128) ⌝ }
+    ensures { λ r. ⌜ RingRead (now (text .entry)) start degree m (now (tails .entry)) (now (heads .entry)) v (now (seen .entry)) (now (nexts .entry)) (now (seen .exit)) (now (nexts .exit)) r ⌝ }
+{
+    let key = b"around=";
+    if !text::starts_with(text, start, key) {
+        return Step::Refused(Answer::BadLayout);
+    }
+    let mut at = start + key.len();
+    let mut count = 0;
+    let mut first = 0;
+    let mut last = 0;
+    loop {
+        let read = edge_at(text, at, v, m, tails, heads, seen);
+        match read {
+            Entry::Absent => return Step::Refused(Answer::BadLayout),
+            Entry::Unfit(next) => return Step::Refused(unfit(text, next)),
+            Entry::Edge(dart, next) => {
+                let head = link(count, first, last, dart, nexts);
+                first = head;
+                last = dart;
+                count += 1;
+                if text::byte(text, next) != 44 {
+                    return ring_end(text, next, degree, count, first, last, nexts);
+                }
+                at = next + 1;
+            }
+        }
+    }
+}
+
+// n lines `around=`.
+pub fn ring_lines(
+    text: &[u8],
+    start: usize,
+    n: usize,
+    m: usize,
+    tails: &[u16; 256],
+    heads: &[u16; 256],
+    nexts: &mut [u16; 512],
+) -> Step
+    requires { ⌜ (n ≤ 128) × (m ≤ 256) × ((k : ℕ) → k < m → Joint n (now tails) (now heads) k) ⌝ }
+    ensures { λ r. ⌜ RingsRead (now (text .entry)) n m start (now (tails .entry)) (now (heads .entry)) (now (nexts .entry)) (now (nexts .exit)) r ⌝ }
+{
+    let degree = degrees(m, tails, heads);
+    let mut seen = [0u16; 256];
+    let mut at = start;
+    let mut v = 0;
+    while v < n {
+        let edges = wide(degree[v]);
+        let step = ring_line(text, at, edges, v, m, tails, heads, &mut seen, nexts);
+        match step {
+            Step::Refused(answer) => return Step::Refused(answer),
+            Step::Next(next) => at = next,
+        }
+        v += 1;
+    }
+    Step::Next(at)
+}

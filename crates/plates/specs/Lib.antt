@@ -1,4 +1,0 @@
-pub mod Program
-pub mod Plates
-pub mod Printed
-pub mod Torus

@@ -1,4 +1,0 @@
-pub mod Firsts
-pub mod Circuits
-pub mod Measure
-pub mod Outcomes

@@ -1,0 +1,78 @@
+use Prim.Native.Nat.{_-_, _≤_}
+use borrow.Author.Needs.{needs}
+use Rattle.counting.specs.Below.{joinBelow}
+use Rattle.writesheet.proofs.Measure.{Put, put-none, put-size, line-room, line-put, lines-put}
+use Rattle.writedrawing.specs.Contracts.{vertexText}
+use Rattle.writedrawing.proofs.Texts.{vertex-line}
+use Rattle.writedrawing.proofs.put_vertices.Statement.{statement}
+use Rattle.writedrawing.proofs.put_vertices.Tie as tie
+
+abbrev Inv-loop : tie.InvT-loop
+Inv-loop out₀ start n d at₀ v₀ t10 out at v =
+    (v ≤ n) × Put out₀ start (joinBelow (vertexText d) v) out at
+
+abbrev μ-loop : tie.MeasureT-loop
+μ-loop out₀ start n d at₀ v₀ t10 out at v = n - v
+
+loop-holds : tie.Need-loop-holds Inv-loop μ-loop
+unfolding joinBelow
+loop-holds c = (search needs, put-none _ _)
+
+mul-vertex-values : tie.Need-mul-vertex-values Inv-loop μ-loop
+mul-vertex-values c = search needs
+
+element-copy-out-vertex-values : tie.Need-element-copy-out-vertex-values Inv-loop μ-loop
+element-copy-out-vertex-values c = search needs
+
+vertex-values-requires : tie.Need-vertex-values-requires Inv-loop μ-loop
+vertex-values-requires c κs = search needs
+
+slice-aggregate-put-line : tie.Need-slice-aggregate-put-line Inv-loop μ-loop
+slice-aggregate-put-line c = search needs
+
+slice-aggregate-put-line-2 : tie.Need-slice-aggregate-put-line-2 Inv-loop μ-loop
+slice-aggregate-put-line-2 c = search needs
+
+put-line-requires : tie.Need-put-line-requires Inv-loop μ-loop
+put-line-requires c κs =
+    let loop = c .before .before .before .before .before .before in
+    (search needs, rw (vertex-line _ (c .before .before .before .vertex-values .ensures)) (line-room (vertexText (loop .before .before .args .t4)) _ (loop .loop .inv .1) _ (c .before .before .before .before .before .loop-test .taken) (loop .before .before .pre .1)))
+
+add-v : tie.Need-add-v Inv-loop μ-loop
+add-v c = search needs
+
+loop-less : tie.Need-loop-less Inv-loop μ-loop
+loop-less c = search needs
+
+loop-again : tie.Need-loop-again Inv-loop μ-loop
+loop-again c =
+    let put = c .before .before in
+    let values = put .before .before .before .before in
+    let loop = values .before .before .before in
+    let e = vertex-line _ (values .vertex-values .ensures) in
+    (search needs, line-put (vertexText (loop .before .before .args .t4)) _ (loop .loop .inv .1) (rw e at (put .put-line .ensures .0)) (rw e at (put .put-line .ensures .1)))
+
+same-length : tie.Need-same-length Inv-loop μ-loop
+same-length c = put-size (c .before .loop .inv .1)
+
+returns : tie.Need-returns Inv-loop μ-loop
+returns c = lines-put (vertexText (c .before .before .before .args .t4)) _ (c .before .loop .inv .1) _ (c .before .loop .inv .0) (c .loop-test .left)
+
+pub put-vertices-spec : {M : Type 1} → statement M
+put-vertices-spec =
+    tie.close
+    (tie.spec
+    Inv-loop
+    μ-loop
+    loop-holds
+    mul-vertex-values
+    element-copy-out-vertex-values
+    vertex-values-requires
+    slice-aggregate-put-line
+    slice-aggregate-put-line-2
+    put-line-requires
+    add-v
+    loop-less
+    loop-again
+    same-length
+    returns)
