@@ -6,11 +6,8 @@ ghost use lib.Dec.{eqb, ltb};
 ghost use lib.ListN.{getD, length};
 ghost use Rattle.counting.specs.Below.{allBelow, tabulate};
 ghost use Rattle.counting.specs.Counts.{count};
-ghost use Rattle.clauses.specs.Contracts.{limitsOf, joinsAt, zeroAt, unusedOf, Ends, dartTable, vertexOf, walkOf, Readable, Held, Degrees, OneRingEach, Round, ringsIn, ringsOf, endOf, poleAt, polesOf, rootedOf};
+ghost use Rattle.clauses.specs.Contracts.{limitsOf, joinsAt, zeroAt, unusedOf, Ends, dartTable, vertexOf, walkOf, endOf, poleAt, polesOf, rootedOf};
 use counting::wide;
-
-// Stands for the dart of a vertex that has none.
-const NONE: u16 = 512;
 
 // Whether the counts of vertices and edges are within limits.
 pub fn within_limits(n: usize, m: usize) -> bool
@@ -86,7 +83,7 @@ pub fn unused_zero(m: usize, tails: &[u16; 256], heads: &[u16; 256], nexts: &[u1
 }
 
 // The vertex of each dart of m edges.
-fn places(m: usize, tails: &[u16; 256], heads: &[u16; 256]) -> [u16; 512]
+pub fn places(m: usize, tails: &[u16; 256], heads: &[u16; 256]) -> [u16; 512]
     requires { ⌜ m ≤ 256 ⌝ }
     ensures { λ r. ⌜ r ≡ dartTable (vertexOf (now (tails .entry)) (now (heads .entry))) (2 * m) ⌝ }
 {
@@ -113,84 +110,6 @@ pub fn walks(m: usize, nexts: &[u16; 512]) -> [u16; 512]
         k += 1;
     }
     walk
-}
-
-// A dart of each vertex that has one, and NONE at the others; and how many each has.
-fn some_darts(darts: usize, at: &[u16; 512], degree: &mut [u16; 128]) -> [u16; 128]
-    requires { ⌜ Readable darts (now at) × Degrees 0 (now at) (now degree) ⌝ }
-    ensures { λ r. ⌜ Held darts (now (at .entry)) r × Degrees darts (now (at .entry)) (now (degree .exit)) ⌝ }
-{
-    let mut held = [NONE; 128];
-    let mut d = 0;
-    while d < darts {
-        let v = wide(at[d]);
-        held[v] = d as u16;
-        degree[v] += 1;
-        d += 1;
-    }
-    held
-}
-
-// Whether the ring of dart `start`, of vertex v, has all darts of the vertex, `size` of them, and no others: it is closed after that many
-// steps, and not before.
-fn is_ring(
-    darts: usize,
-    at: &[u16; 512],
-    nexts: &[u16; 512],
-    start: usize,
-    v: u16,
-    size: usize,
-) -> bool
-    requires { ⌜ (darts ≤ 512) × (start < darts) × (getD (now at) start 0 ≡ v) × (size ≡ count (λ d. eqb (getD (now at) d 0) v) darts) ⌝ }
-    ensures { λ r. ⌜ (r ≡ true → Round darts (now (at .entry)) (now (nexts .entry)) start v size) × (r ≡ false → OneRingEach darts (now (at .entry)) (now (nexts .entry)) → ⊥) ⌝ }
-{
-    let last = size - 1;
-    let mut d = start;
-    let mut steps = 0;
-    while steps < last {
-        d = wide(nexts[d]);
-        if darts <= d {
-            return false;
-        }
-        if at[d] != v {
-            return false;
-        }
-        if d == start {
-            return false;
-        }
-        steps += 1;
-    }
-    wide(nexts[d]) == start
-}
-
-// Whether each dart's next dart is at the same vertex, and all darts of a vertex are in one ring: the ring of one dart of each vertex has
-// all darts of the vertex and no others.
-fn one_ring_each(darts: usize, at: &[u16; 512], nexts: &[u16; 512]) -> bool
-    requires { ⌜ Readable darts (now at) ⌝ }
-    ensures { λ r. ⌜ r ≡ ringsIn darts (now (at .entry)) (now (nexts .entry)) ⌝ }
-{
-    let mut degree = [0u16; 128];
-    let held = some_darts(darts, at, &mut degree);
-    let mut v = 0;
-    while v < 128 {
-        let start = wide(held[v]);
-        if start < darts {
-            if !is_ring(darts, at, nexts, start, v as u16, wide(degree[v])) {
-                return false;
-            }
-        }
-        v += 1;
-    }
-    true
-}
-
-// Whether the next-darts of each vertex form one ring of exactly its darts.
-pub fn in_rings(m: usize, tails: &[u16; 256], heads: &[u16; 256], nexts: &[u16; 512]) -> bool
-    requires { ⌜ Ends 128 m (now tails) × Ends 128 m (now heads) ⌝ }
-    ensures { λ r. ⌜ r ≡ ringsOf (2 * m) (now (tails .entry)) (now (heads .entry)) (now (nexts .entry)) ⌝ }
-{
-    let at = places(m, tails, heads);
-    one_ring_each(2 * m, &at, nexts)
 }
 
 // Marks each vertex that is among the first m ends.

@@ -93,3 +93,12 @@ module _ {edges k : ℕ} {ends first after : List ℕ} (C : Chained (suc k) edge
       from-v w j e l =
           ⊎-elim (λ q. ap (λ x. getD ends x 0) q ∙ sym ev ∙ sym e) (λ m. C .at-end v j in-v (new-old (C .high v in-v) m) ∙ sym e)
           (split (rw at-first at l) at-after)
+
+-- of a digraph with its lists: the edges on the list of v are those out of v, and the list runs upwards
+module _ {edges : ℕ} {ends first after : List ℕ} (C : Chained 0 edges ends first after) where
+  list-low : {j k : ℕ} → Listed edges after j k → k ≤ j
+  list-low (at-head h) = omega arith
+  list-low (later {k} h e l) = omega (arith, list-low l, C .rising k (omega arith) h)
+
+  pub later-on : {j k i : ℕ} → k < edges → i ≡ getD after k 0 → Listed edges after j i → Listed edges after j k × (j ≢ k)
+  later-on {k} h e l = (later h (sym e) l, λ q. omega (arith, list-low l, C .rising k (omega arith) h))

@@ -13,10 +13,10 @@ use Rattle.counting.specs.Paths.Path.{here}
 use Rattle.counting.proofs.Counts.{count-all, count-onto, count-full, count-gap}
 use Rattle.counting.proofs.Paths.{before, circle}
 use Rattle.digraph.specs.Digraph.{Leads, Leveled, flat}
-use Rattle.digraph.specs.Contracts.{into, ready, Waiting, Queued, Listing, Settled}
+use Rattle.digraph.specs.Contracts.{into, ready, Waiting, Queued, Graph, Settled}
 use Rattle.digraph.proofs.Relaxation.{flat-at, flat-attained, source-in, climbs-leveled, circle-leveled}
 
-module _ {edges : ℕ} {to first after : List ℕ} (G : Listing edges to first after) where
+module _ {edges : ℕ} {to : List ℕ} (G : Graph edges to) where
   -- before the first edge
   pub start : {waiting queue : List ℕ} {tail : ℕ} → Waiting edges to (λ j. true) waiting → Queued (G .nodes) waiting queue tail → Settled G 0 waiting flat queue tail
   start A Q = record {

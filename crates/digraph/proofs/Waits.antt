@@ -100,7 +100,7 @@ module _ {n : ℕ} {waiting queue : List ℕ} {tail : ℕ} (Q : Queued n waiting
     }
 
 -- what is stored past its end changes nothing
-queue-past : {n : ℕ} {waiting queue : List ℕ} {tail : ℕ} → Queued n waiting queue tail → (x : ℕ) → Queued n waiting (set queue tail x) tail
+pub queue-past : {n : ℕ} {waiting queue : List ℕ} {tail : ℕ} → Queued n waiting queue tail → (x : ℕ) → Queued n waiting (set queue tail x) tail
 queue-past {queue} {tail} Q x = record {
   size = length-set queue tail x ∙ Q .size;
   node = λ i l. rw (entry i l) (Q .node i l);

@@ -54,15 +54,19 @@ pub record Attained (nodes edges : ℕ) (from to level : List ℕ) : Type 0 wher
   pub path : (v : ℕ) → (a : ℕ) × Path (Leads edges from to) a v (getD level v 0)
   pub rest : (v : ℕ) → nodes ≤ v → getD level v 0 ≡ 0
 
--- a digraph with the lists of the edges out of each node
-pub record Listing (edges : ℕ) (to first after : List ℕ) : Type 0 where
+-- a digraph whose edges lead to `to`
+pub record Graph (edges : ℕ) (to : List ℕ) : Type 0 where
   pub nodes : ℕ
   pub from : List ℕ
   pub within : Within nodes edges from to
-  pub chained : Chained 0 edges from first after
+
+-- a digraph with the lists of the edges out of each node
+pub record Listing (edges : ℕ) (to first after : List ℕ) : Type 0 where
+  pub graph : Graph edges to
+  pub chained : Chained 0 edges (graph .from) first after
 
 -- the edges that do not wait are passed: they climb, and no level is above their number
-pub record Progress {edges : ℕ} {to first after : List ℕ} (G : Listing edges to first after) (waits : ℕ → Bool) (waiting level queue : List ℕ) (tail : ℕ) : Type 0 where
+pub record Progress {edges : ℕ} {to : List ℕ} (G : Graph edges to) (waits : ℕ → Bool) (waiting level queue : List ℕ) (tail : ℕ) : Type 0 where
   pub waiting-in : Waiting edges to waits waiting
   pub queued : Queued (G .nodes) waiting queue tail
   pub attained : Attained (G .nodes) edges (G .from) to level
@@ -70,7 +74,7 @@ pub record Progress {edges : ℕ} {to first after : List ℕ} (G : Listing edges
   pub low : (v : ℕ) → getD level v 0 + count waits edges ≤ edges
 
 -- the edges out of the queue's first `head` nodes are passed, and no other
-pub record Settled {edges : ℕ} {to first after : List ℕ} (G : Listing edges to first after) (head : ℕ) (waiting level queue : List ℕ) (tail : ℕ) : Type 0 where
+pub record Settled {edges : ℕ} {to : List ℕ} (G : Graph edges to) (head : ℕ) (waiting level queue : List ℕ) (tail : ℕ) : Type 0 where
   pub waits : ℕ → Bool
   pub progress : Progress G waits waiting level queue tail
   pub passed : (i j : ℕ) → i < head → j < edges → getD (G .from) j 0 ≡ getD queue i 0 → waits j ≡ false
@@ -80,11 +84,11 @@ pub record Settled {edges : ℕ} {to first after : List ℕ} (G : Listing edges 
 -- some digraph has these lists, and the edges out of the queue's first `head` nodes are passed
 pub record Underway (edges : ℕ) (to first after : List ℕ) (head : ℕ) (waiting level queue : List ℕ) (tail : ℕ) : Type 0 where
   pub listing : Listing edges to first after
-  pub settled : Settled listing head waiting level queue tail
+  pub settled : Settled (listing .graph) head waiting level queue tail
 
 -- in every digraph with these lists: if before the edges out of the queue's first `head` nodes were passed, after it those out of its first `head′` are
 abbrev pub Onward : (edges : ℕ) (to first after : List ℕ)
     (head : ℕ) (waiting level queue : List ℕ) (tail : ℕ)
     (head′ : ℕ) (waiting′ level′ queue′ : List ℕ) (tail′ : ℕ) → Type 0
 Onward edges to first after head waiting level queue tail head′ waiting′ level′ queue′ tail′ =
-    (G : Listing edges to first after) → Settled G head waiting level queue tail → Settled G head′ waiting′ level′ queue′ tail′
+    (L : Listing edges to first after) → Settled (L .graph) head waiting level queue tail → Settled (L .graph) head′ waiting′ level′ queue′ tail′

@@ -61,7 +61,7 @@ fn chain(edges: usize, ends: &[u16; 256]) -> Chains
 }
 
 // For each node the number of the edges into it.
-fn waiting_edges(edges: usize, to: &[u16; 256]) -> [u16; 256]
+pub fn waiting_edges(edges: usize, to: &[u16; 256]) -> [u16; 256]
     requires { ⌜ (edges ≤ 256) × ((k : ℕ) → k < edges → getD (now to) k 0 < 256) ⌝ }
     ensures { λ r. ⌜ Waiting edges (now (to .entry)) (λ j. true) r ⌝ }
 {
@@ -76,7 +76,7 @@ fn waiting_edges(edges: usize, to: &[u16; 256]) -> [u16; 256]
 }
 
 // Puts the nodes for which no edge waits in the queue; returns how many there are.
-fn sources(nodes: usize, waiting: &[u16; 256], queue: &mut [u16; 256]) -> usize
+pub fn sources(nodes: usize, waiting: &[u16; 256], queue: &mut [u16; 256]) -> usize
     requires { ⌜ (nodes ≤ 256) × (length (now queue) ≡ 256) ⌝ }
     ensures { λ r. ⌜ Queued nodes (now (waiting .entry)) (now (queue .exit)) r ⌝ }
 {

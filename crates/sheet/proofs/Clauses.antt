@@ -1,7 +1,7 @@
 -- Each clause of soundness over the arrays; what the answer is by them. Assumes nothing.
 use Prim.Native.Nat.{ℕ, _+_, _*_, _≤_, _<_}
 use mathlib.Core.Path.{_≡_, refl, sym, ap, _∙_}
-use mathlib.Core.Bool.{Bool, true, false, not, _&&_, _||_, cond, and-false, and-eq-true-iff, or-and-distrib-left}
+use mathlib.Core.Bool.{Bool, true, false, not, _&&_, _||_, cond, and-eq-true-iff, or-and-distrib-left, true≢false}
 use mathlib.Core.List.{List, [], _∷_}
 use native.Mathlib.Omega.{arith}
 use borrow.Author.Tests.{ltb-true, leb-true, eq-eqb, ne-eqb}
@@ -13,7 +13,7 @@ use Rattle.orbits.specs.declared.Traced.{Traced}
 use Rattle.orbits.specs.Tables.{traced}
 use Rattle.orbits.proofs.Numbering.{count-law}
 use Rattle.digraph.specs.declared.Layering.{Layering}
-use Rattle.digraph.specs.Digraph.{Within}
+use Rattle.digraph.specs.Digraph.{Within, flat}
 use Rattle.digraph.specs.Relaxed.{withinOf, climbs, rounds, answer, levelsOf}
 use Rattle.digraph.proofs.Tests.{within-is}
 use Rattle.sheet.specs.declared.Sheet.{Sheet}
@@ -23,9 +23,10 @@ use Rattle.sheet.specs.declared.Findings.{Findings}
 use Rattle.answers.specs.Answers.{refusalNumber}
 use Rattle.answers.specs.Refusals.{first, isAccepted, _if_}
 use Rattle.sheet.specs.Darts.{tail, head, darts}
-use Rattle.sheet.specs.Check.{withinLimits, joined, unusedZero, rooted, rowLevels, acyclic, incoming, outgoing, poles, faceTable, planar, sound, judge}
-use Rattle.sheet.specs.Contracts.{refused, accepted, structured, judgedOf, findingsOf}
-use Rattle.clauses.specs.Contracts.{limitsOf, joinsAt, zeroAt, unusedOf, Ends, dartTable, walkOf, ringsOf, endOf, poleAt, polesOf, rootedOf}
+use Rattle.sheet.specs.Check.{withinLimits, joined, inRings, unusedZero, rooted, rowLevels, acyclic, incoming, outgoing, poles, faceTable, planar, sound, judge}
+use Rattle.sheet.specs.Contracts.{refused, accepted, bounded, facedOf, judgedOf, findingsOf}
+use Rattle.clauses.specs.Contracts.{limitsOf, joinsAt, zeroAt, unusedOf, Ends, dartTable, walkOf, endOf, poleAt, polesOf, rootedOf}
+use Rattle.rings.specs.Contracts.{ringsOf, ringLevels}
 use Rattle.sheet.specs.Darts.{sheetOf}
 use Rattle.counting.proofs.Below.{all-at, all-agree, all-both}
 use Rattle.sheet.proofs.Rings.{rings-are}
@@ -39,11 +40,10 @@ unused-is s =
       all-both (λ k. ltb k (s .edges) || eqb (tail s k) 0) (λ k. ltb k (s .edges) || eqb (head s k) 0) 256,
     ) refl
 
-pub structured-is : (s : Sheet) → structured s
-    ≡ (limitsOf (s .vertices) (s .edges) && allBelow (joinsAt (s .vertices) (s .tails) (s .heads)) (s .edges)
-    && ringsOf (darts s) (s .tails) (s .heads) (s .nexts) && unusedOf (s .edges) (s .tails) (s .heads) (s .nexts))
-unfolding structured withinLimits joined limitsOf joinsAt
-structured-is s = rw (rings-are s, unused-is s) refl
+pub bounded-is : (s : Sheet) → bounded s
+    ≡ (limitsOf (s .vertices) (s .edges) && allBelow (joinsAt (s .vertices) (s .tails) (s .heads)) (s .edges) && unusedOf (s .edges) (s .tails) (s .heads) (s .nexts))
+unfolding bounded withinLimits joined limitsOf joinsAt
+bounded-is s = rw (unused-is s) refl
 
 poles-is : (s : Sheet) → poles s ≡ polesOf (s .vertices) (s .edges) (s .tails) (s .heads)
 unfolding poles polesOf poleAt incoming outgoing endOf
@@ -59,6 +59,31 @@ limits-most n m t =
 
 pub few-orbits : (n : ℕ) (step : List ℕ) (f : Traced) → f ≡ traced n step → f .count ≤ n
 few-orbits n step f e = rw e (count-law n step)
+
+-- by the number of faces
+faced-is : (otherwise : Answer) (s : Sheet) → facedOf otherwise (s .vertices) (s .edges) (s .nexts) (rowLevels s .level) ≡ cond (planar s) (accepted s) (refused otherwise)
+unfolding facedOf planar accepted faceTable dartTable walkOf
+faced-is otherwise s = refl
+
+judged-by : (s : Sheet) → rooted s ≡ true → acyclic s ≡ true → poles s ≡ true → cond (planar s) (accepted s) (refused NotPlanar) ≡ judgedOf s
+unfolding judgedOf judge first isAccepted refusalNumber
+judged-by s r a p = rw (r, a, p) (by-bool (planar s) (λ t. rw t refl) (λ t. rw t refl))
+
+pub face-refused : (otherwise : Answer) (n m : ℕ) (nexts rows walk : List ℕ) → walk ≡ dartTable (walkOf nexts) (2 * m) → (f : Traced) → f ≡ traced (2 * m) walk → (n + f .count ≡ m + 2 → ⊥)
+    → refused otherwise ≡ facedOf otherwise n m nexts rows
+unfolding facedOf
+face-refused otherwise n m nexts rows walk we f fe q =
+    let z = fe ∙ ap (traced (2 * m)) we in
+    let b = ne-eqb (n + f .count) (m + 2) q in
+    rw (← z, b) refl
+
+pub face-met : (otherwise : Answer) (n m : ℕ) (nexts rows walk : List ℕ) → walk ≡ dartTable (walkOf nexts) (2 * m) → (f : Traced) → f ≡ traced (2 * m) walk → n + f .count ≡ m + 2
+    → record { answer = Accepted; rows = rows; faces = f .orbit; count = f .count } ≡ facedOf otherwise n m nexts rows
+unfolding facedOf
+face-met otherwise n m nexts rows walk we f fe q =
+    let z = fe ∙ ap (traced (2 * m)) we in
+    let b = eq-eqb (n + f .count) (m + 2) q in
+    rw (← z, b) refl
 
 module _ (n m : ℕ) (tails heads : List ℕ) where
   pub joined-ends : (b : ℕ) → n ≤ b → m ≤ 256 → allBelow (joinsAt n tails heads) m ≡ true → Ends b m tails × Ends b m heads
@@ -102,39 +127,23 @@ module _ (n m : ℕ) (tails heads : List ℕ) where
         unfolding judgedOf judge first isAccepted refusalNumber rooted rootedOf
         bad-poles p = rw (r, acyclic-is, a, poles-is (sheetOf n m tails heads nexts), p) refl
 
-        module _ (p : polesOf n m tails heads ≡ true) (walk : List ℕ) (we : walk ≡ dartTable (walkOf nexts) (2 * m)) (f : Traced) (fe : f ≡ traced (2 * m) walk) where
-          faces-are : f ≡ faceTable (sheetOf n m tails heads nexts)
-          unfolding faceTable dartTable walkOf
-          faces-are = fe ∙ ap (traced (2 * m)) we
+        pub by-faces : polesOf n m tails heads ≡ true → (f : Findings) → f ≡ facedOf NotPlanar n m nexts (l .level) → f ≡ judgedOf (sheetOf n m tails heads nexts)
+        unfolding rowLevels rooted rootedOf
+        by-faces p f e =
+            let s = sheetOf n m tails heads nexts in
+            e ∙ ap (λ (x : Layering). facedOf NotPlanar n m nexts (x .level)) le ∙ faced-is NotPlanar s ∙ judged-by s r (acyclic-is ∙ a) (poles-is s ∙ p)
 
-          planar-is : planar (sheetOf n m tails heads nexts) ≡ eqb (n + f .count) (m + 2)
-          unfolding planar
-          planar-is = ap (λ (x : Traced). eqb (n + x .count) (m + 2)) (sym faces-are)
-
-          pub not-planar : (n + f .count ≡ m + 2 → ⊥) → refused NotPlanar ≡ judgedOf (sheetOf n m tails heads nexts)
-          unfolding judgedOf judge first isAccepted refusalNumber rooted rootedOf
-          not-planar q = rw (r, acyclic-is, a, poles-is (sheetOf n m tails heads nexts), p, planar-is, ne-eqb (n + f .count) (m + 2) q) refl
-
-          pub all-met : n + f .count ≡ m + 2 → record { answer = Accepted; rows = l .level; faces = f .orbit; count = f .count } ≡ judgedOf (sheetOf n m tails heads nexts)
-          unfolding judgedOf accepted judge first isAccepted refusalNumber rooted rootedOf rowLevels
-          all-met q =
-              ap (λ (x : Layering). record { answer = Accepted; rows = x .level; faces = f .orbit; count = f .count }) le
-              ∙ ap (λ (x : Traced). record { answer = Accepted; rows = levelsOf n m tails heads .level; faces = x .orbit; count = x .count }) faces-are
-              ∙ rw (r, acyclic-is, a, poles-is (sheetOf n m tails heads nexts), p, planar-is, eq-eqb (n + f .count) (m + 2) q) refl
+-- what a record within its bounds tells the next tests
+pub bounded-ends : (s : Sheet) → bounded s ≡ true
+    → (s .vertices ≤ 128) × (s .edges ≤ 256) × ((b : ℕ) → s .vertices ≤ b → Ends b (s .edges) (s .tails) × Ends b (s .edges) (s .heads))
+bounded-ends s t =
+    let joins = allBelow (joinsAt (s .vertices) (s .tails) (s .heads)) (s .edges) in
+    let (x, _) = and-eq-true-iff (limitsOf (s .vertices) (s .edges) && joins) (unusedOf (s .edges) (s .tails) (s .heads) (s .nexts)) .0 (sym (bounded-is s) ∙ t) in
+    let (l, j) = and-eq-true-iff (limitsOf (s .vertices) (s .edges)) joins .0 x in
+    let (n, m) = limits-most (s .vertices) (s .edges) l in
+    (n, m, λ b h. joined-ends (s .vertices) (s .edges) (s .tails) (s .heads) b h m j)
 
 module _ (s : Sheet) where
-  sound-is : sound s ≡ (structured s && isAccepted (judge s))
-  unfolding sound structured judge first isAccepted refusalNumber
-  sound-is = go (structured s) (rooted s) (acyclic s) (poles s) (planar s)
-    where
-      go : (x r a p q : Bool) → (x && r && a && p && q) ≡ (x && isAccepted (first (BadRoot if not r ∷ Cyclic if not a ∷ BadPoles if not p ∷ NotPlanar if not q ∷ [])))
-      go false r a p q = refl
-      go true false a p q = refl
-      go true true false p q = refl
-      go true true true false q = refl
-      go true true true true false = refl
-      go true true true true true = refl
-
   pub judged-answer : judgedOf s .answer ≡ judge s
   unfolding judgedOf accepted refused judge first isAccepted refusalNumber
   judged-answer = go (rooted s) (acyclic s) (poles s) (planar s)
@@ -149,21 +158,63 @@ module _ (s : Sheet) where
       go true true true false = refl
       go true true true true = refl
 
-  pub not-structured : structured s ≡ false → refused NotSound ≡ findingsOf s
+  -- a clause fails
+  pub not-sound : (sound s ≡ true → ⊥) → refused NotSound ≡ findingsOf s
   unfolding findingsOf
-  not-structured t = rw (sound-is, t) refl
+  not-sound f = by-bool (sound s) (λ t. absurd (f t)) (λ t. rw t refl)
 
-  pub not-accepted : isAccepted (judge s) ≡ false → refused NotSound ≡ findingsOf s
-  unfolding findingsOf
-  not-accepted t = rw (sound-is, t, and-false (structured s)) refl
+  -- what soundness tells of each clause
+  sound-parts : sound s ≡ true
+      → (withinLimits s ≡ true) × (joined s ≡ true) × (inRings s ≡ true) × (unusedZero s ≡ true) × (rooted s ≡ true) × (acyclic s ≡ true) × (poles s ≡ true) × (planar s ≡ true)
+  unfolding sound
+  sound-parts t =
+      let (a, h) = and-eq-true-iff _ _ .0 t in
+      let (b, g) = and-eq-true-iff _ _ .0 a in
+      let (c, f) = and-eq-true-iff _ _ .0 b in
+      let (d, e) = and-eq-true-iff _ _ .0 c in
+      let (x, u) = and-eq-true-iff _ _ .0 d in
+      let (y, r) = and-eq-true-iff _ _ .0 x in
+      let (l, j) = and-eq-true-iff _ _ .0 y in
+      (l, j, r, u, e, f, g, h)
 
-  pub findings-are : structured s ≡ true → isAccepted (judge s) ≡ true → judgedOf s ≡ findingsOf s
-  unfolding findingsOf judgedOf
-  findings-are t a = rw (sound-is, t, a) refl
+  pub not-bounded : bounded s ≡ false → sound s ≡ true → ⊥
+  unfolding bounded
+  not-bounded f t = let (l, j, _, u, _, _, _, _) = sound-parts t in true≢false (sym (rw (l, j, u) refl) ∙ f)
+
+  pub not-rooted : rootedOf (s .tails) (s .heads) ≡ false → sound s ≡ true → ⊥
+  unfolding rooted rootedOf
+  not-rooted f t = let (_, _, _, _, r, _, _, _) = sound-parts t in true≢false (sym r ∙ f)
+
+  pub no-poles : polesOf (s .vertices) (s .edges) (s .tails) (s .heads) ≡ false → sound s ≡ true → ⊥
+  no-poles f t = let (_, _, _, _, _, _, p, _) = sound-parts t in true≢false (sym p ∙ poles-is s ∙ f)
+
+  -- rings and rows, found together
+  module _ (l : Layering) (e : l ≡ ringLevels (s .vertices) (s .edges) (s .tails) (s .heads) (s .nexts)) where
+    with-rings : ringsOf (darts s) (s .tails) (s .heads) (s .nexts) ≡ true → l ≡ rowLevels s
+    unfolding ringLevels rowLevels
+    with-rings t = e ∙ rw t refl
+
+    pub no-levels : l .acyclic ≡ false → sound s ≡ true → ⊥
+    unfolding acyclic
+    no-levels f t = let (_, _, r, _, _, a, _, _) = sound-parts t in true≢false (sym a ∙ ap (λ (x : Layering). x .acyclic) (sym (with-rings (sym (rings-are s) ∙ r))) ∙ f)
+
+    -- all clauses but the last are met
+    module _ (a : l .acyclic ≡ true) where
+      rings-in : ringsOf (darts s) (s .tails) (s .heads) (s .nexts) ≡ true
+      unfolding ringLevels
+      rings-in = by-bool (ringsOf (darts s) (s .tails) (s .heads) (s .nexts)) (λ t. t)
+          (λ t. let q : l ≡ record { acyclic = false; level = flat } = e ∙ rw t refl in absurd (true≢false (sym a ∙ ap (λ (x : Layering). x .acyclic) q)))
+
+      pub by-all : bounded s ≡ true → rootedOf (s .tails) (s .heads) ≡ true → polesOf (s .vertices) (s .edges) (s .tails) (s .heads) ≡ true
+          → (f : Findings) → f ≡ facedOf NotSound (s .vertices) (s .edges) (s .nexts) (l .level) → f ≡ findingsOf s
+      unfolding findingsOf sound bounded rooted rootedOf acyclic
+      by-all b r p f q =
+          let rows = with-rings rings-in in
+          let (x, u) = and-eq-true-iff (withinLimits s && joined s) (unusedZero s) .0 b in
+          let (y, j) = and-eq-true-iff (withinLimits s) (joined s) .0 x in
+          q ∙ ap (λ (z : Layering). facedOf NotSound (s .vertices) (s .edges) (s .nexts) (z .level)) rows ∙ faced-is NotSound s
+          ∙ rw (y, j, rings-are s ∙ rings-in, u, r, ap (λ (z : Layering). z .acyclic) (sym rows) ∙ a, poles-is s ∙ p) refl
 
   pub findings-answer : isAccepted (findingsOf s .answer) ≡ sound s
   unfolding findingsOf accepted refused isAccepted refusalNumber
   findings-answer = by-bool (sound s) (λ t. rw t refl) (λ t. rw t refl)
-
-  pub answer-is : (f : Findings) → f ≡ judgedOf s → (r b : Bool) → r ≡ isAccepted (f .answer) → r ≡ b → isAccepted (judge s) ≡ b
-  answer-is f e r b t q = ap isAccepted (sym judged-answer ∙ ap (λ (g : Findings). g .answer) (sym e)) ∙ sym t ∙ q

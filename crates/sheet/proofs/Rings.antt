@@ -11,7 +11,8 @@ use Rattle.counting.proofs.Below.{all-agree}
 use Rattle.orbits.specs.Tables.{traced, isPermutation}
 use Rattle.orbits.proofs.Distinct.{permutation-law}
 use Rattle.clauses.specs.Darts.{isTail}
-use Rattle.clauses.specs.Contracts.{dartTable, vertexOf, ringAt, ringsIn, ringsOf}
+use Rattle.clauses.specs.Contracts.{dartTable, vertexOf}
+use Rattle.rings.specs.Contracts.{ringAt, ringsIn, ringsOf}
 use Rattle.clauses.proofs.Below.{dart-at}
 use Rattle.sheet.specs.declared.Sheet.{Sheet}
 use Rattle.sheet.specs.Darts.{darts, vertex, next}

@@ -1,14 +1,14 @@
 // The sheet record, the fresh sheet, and the check of soundness, in time linear in the sheet.
 ghost use mathlib.Core.Path.{_≡_};
+ghost use Prim.Native.Nat.{_≤_};
 ghost use Rattle.sheet.specs.Darts.{sheetOf};
 ghost use Rattle.sheet.specs.Fresh.{freshSheet};
 ghost use Rattle.sheet.specs.Check.{sound, judge};
-ghost use Rattle.sheet.specs.Contracts.{refused, structured, judgedOf, findingsOf};
+ghost use Rattle.sheet.specs.Contracts.{refused, bounded, facedOf, judgedOf, findingsOf};
 use answers::Answer;
 use answers::is_accepted;
 use clauses::all_join;
 use clauses::has_poles;
-use clauses::in_rings;
 use clauses::is_rooted;
 use clauses::unused_zero;
 use clauses::walks;
@@ -65,15 +65,15 @@ fn refuse(answer: Answer) -> Findings
     }
 }
 
-// Whether the record meets the first four clauses of soundness: limits, edges, rings, unused entries.
-fn is_structured(
+// Whether the record meets three clauses of soundness: limits, edges, unused entries.
+fn is_bounded(
     n: usize,
     m: usize,
     tails: &[u16; 256],
     heads: &[u16; 256],
     nexts: &[u16; 512],
 ) -> bool
-    ensures { λ r. ⌜ r ≡ structured (sheetOf n m (now (tails .entry)) (now (heads .entry)) (now (nexts .entry))) ⌝ }
+    ensures { λ r. ⌜ r ≡ bounded (sheetOf n m (now (tails .entry)) (now (heads .entry)) (now (nexts .entry))) ⌝ }
 {
     if !within_limits(n, m) {
         return false;
@@ -81,13 +81,29 @@ fn is_structured(
     if !all_join(n, m, tails, heads) {
         return false;
     }
-    if !in_rings(m, tails, heads, nexts) {
-        return false;
-    }
     unused_zero(m, tails, heads, nexts)
 }
 
-// Judges by the other four: edge 0, directed circles, vertices 0 and 1, the number of faces.
+// Judges by the number of faces, where all other clauses are met. The faces are traced once.
+fn faced(otherwise: Answer, n: usize, m: usize, nexts: &[u16; 512], rows: [u16; 256]) -> Findings
+    requires { ⌜ (n ≤ 256) × (m ≤ 256) ⌝ }
+    ensures { λ r. ⌜ r ≡ facedOf otherwise n m (now (nexts .entry)) rows ⌝ }
+{
+    let walk = walks(m, nexts);
+    let traced = orbits::trace(2 * m, &walk);
+    if n + traced.count != m + 2 {
+        return refuse(otherwise);
+    }
+    let faces = traced.orbit;
+    Findings {
+        answer: Answer::Accepted,
+        rows,
+        faces,
+        count: traced.count,
+    }
+}
+
+// Judges by the last four clauses in order: edge 0, directed circles, vertices 0 and 1, the number of faces.
 fn judged(
     n: usize,
     m: usize,
@@ -107,22 +123,12 @@ fn judged(
     if !has_poles(n, m, tails, heads) {
         return refuse(Answer::BadPoles);
     }
-    let walk = walks(m, nexts);
-    let traced = orbits::trace(2 * m, &walk);
-    if n + traced.count != m + 2 {
-        return refuse(Answer::NotPlanar);
-    }
     let rows = levels.level;
-    let faces = traced.orbit;
-    Findings {
-        answer: Answer::Accepted,
-        rows,
-        faces,
-        count: traced.count,
-    }
+    faced(Answer::NotPlanar, n, m, nexts, rows)
 }
 
 // Examines any record: where it is sound, what later steps go on with, so that nothing is found twice; else 9 and zeros.
+// Rings and rows are found on one walk round each vertex.
 pub fn examine(s: Sheet) -> Findings
     ensures { λ r. ⌜ r ≡ findingsOf s ⌝ }
 {
@@ -131,16 +137,21 @@ pub fn examine(s: Sheet) -> Findings
     let tails = s.tails;
     let heads = s.heads;
     let nexts = s.nexts;
-    if !is_structured(n, m, &tails, &heads, &nexts) {
+    if !is_bounded(n, m, &tails, &heads, &nexts) {
         return refuse(Answer::NotSound);
     }
-    let found = judged(n, m, &tails, &heads, &nexts);
-    let answer = found.answer;
-    if is_accepted(answer) {
-        found
-    } else {
-        refuse(Answer::NotSound)
+    if !is_rooted(&tails, &heads) {
+        return refuse(Answer::NotSound);
     }
+    if !has_poles(n, m, &tails, &heads) {
+        return refuse(Answer::NotSound);
+    }
+    let levels = rings::levels(n, m, &tails, &heads, &nexts);
+    if !levels.acyclic {
+        return refuse(Answer::NotSound);
+    }
+    let rows = levels.level;
+    faced(Answer::NotSound, n, m, &nexts, rows)
 }
 
 // What load refuses after its last line, of a sheet that meets the first four clauses: 5, 6, 7, 8 in order.

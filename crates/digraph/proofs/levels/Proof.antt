@@ -31,7 +31,7 @@ chain-requires c κs = let W = inside c in (W .few-edges, λ k h. omega (arith, 
 
 -- the digraph with its lists
 abbrev listing : (c : tie.After-chain) → Listing (c .before .before .before .args .edges) (c .before .before .before .args .to .now) (c .chain .result .first) (c .chain .result .after)
-listing c = record { nodes = c .before .before .before .args .nodes; from = c .before .before .before .args .from .now; within = inside (c .before); chained = c .chain .ensures }
+listing c = record { graph = record { nodes = c .before .before .before .args .nodes; from = c .before .before .before .args .from .now; within = inside (c .before) }; chained = c .chain .ensures }
 
 waiting-edges-requires : tie.Need-waiting-edges-requires
 waiting-edges-requires c κs = let W = inside (c .before .before .before) in (W .few-edges, λ k h. omega (arith, W .to-in k h, W .few-nodes))
@@ -42,10 +42,10 @@ sources-requires c κs = (inside (c .before .before .before .before .before .bef
 -- before the first edge is passed
 begun : (c : tie.After-sources)
     → let at-waiting = c .before .before .before in
-    Settled (listing (at-waiting .before .before .before)) 0 (at-waiting .waiting-edges .result) flat (c .sources .last .1 .1 .0) (c .sources .result)
+    Settled (listing (at-waiting .before .before .before) .graph) 0 (at-waiting .waiting-edges .result) flat (c .sources .last .1 .1 .0) (c .sources .result)
 begun c =
     let at-waiting = c .before .before .before in
-    start (listing (at-waiting .before .before .before)) (at-waiting .waiting-edges .ensures) (c .sources .ensures)
+    start (listing (at-waiting .before .before .before) .graph) (at-waiting .waiting-edges .ensures) (c .sources .ensures)
 
 settle-requires : tie.Need-settle-requires
 unfolding flat
@@ -58,16 +58,16 @@ unfolding flat
 returns-2 c =
     let at-sources = c .before .before .before .before .before .before .before in
     let at-chain = at-sources .before .before .before .before .before .before in
-    let G = listing at-chain in
-    right _ _ _ _ (passed (at-chain .before)) _ (cyclic G (c .before .settle .ensures G (begun at-sources)) (c .if2 .taken))
+    let L = listing at-chain in
+    right _ _ _ _ (passed (at-chain .before)) _ (cyclic (L .graph) (c .before .settle .ensures L (begun at-sources)) (c .if2 .taken))
 
 returns-3 : tie.Need-returns-3
 unfolding flat
 returns-3 c =
     let at-sources = c .before .before .before .before .before .before .before in
     let at-chain = at-sources .before .before .before .before .before .before in
-    let G = listing at-chain in
-    right _ _ _ _ (passed (at-chain .before)) _ (acyclic G (c .before .settle .ensures G (begun at-sources)) (c .if2 .left))
+    let L = listing at-chain in
+    right _ _ _ _ (passed (at-chain .before)) _ (acyclic (L .graph) (c .before .settle .ensures L (begun at-sources)) (c .if2 .left))
 
 pub levels-spec : {M : Type 1} → statement M
 levels-spec =

@@ -9,13 +9,13 @@ use Rattle.digraph.proofs.settle.Tie as tie
 
 abbrev Inv-loop : tie.InvT-loop
 Inv-loop edges to first after waiting₀ level₀ queue₀ end tail₀ head₀ waiting level queue tail head =
-    (G : Listing edges to first after) → Settled G 0 waiting₀ level₀ queue₀ end → Settled G head waiting level queue tail
+    (L : Listing edges to first after) → Settled (L .graph) 0 waiting₀ level₀ queue₀ end → Settled (L .graph) head waiting level queue tail
 
 abbrev μ-loop : tie.MeasureT-loop
 μ-loop edges to first after waiting₀ level₀ queue₀ end tail₀ head₀ waiting level queue tail head = 256 - head
 
 loop-holds : tie.Need-loop-holds Inv-loop μ-loop
-loop-holds c = λ G S. S
+loop-holds c = λ L S. S
 
 pass-requires : tie.Need-pass-requires Inv-loop μ-loop
 pass-requires c κs =
@@ -27,7 +27,7 @@ pass-requires c κs =
 in-head : (c : tie.In-loop Inv-loop μ-loop) → c .before .loop .head < 256
 in-head c =
     let u = c .before .before .pre in
-    omega (arith, c .loop-test .taken, tail-in (c .before .loop .inv (u .listing) (u .settled) .progress .queued), u .listing .within .few-nodes)
+    omega (arith, c .loop-test .taken, tail-in (c .before .loop .inv (u .listing) (u .settled) .progress .queued), u .listing .graph .within .few-nodes)
 
 add-head : tie.Need-add-head Inv-loop μ-loop
 add-head c = omega (arith, in-head (c .before .before .before .before))
@@ -36,11 +36,11 @@ loop-less : tie.Need-loop-less Inv-loop μ-loop
 loop-less c = omega (arith, in-head (c .before .before .before .before))
 
 loop-again : tie.Need-loop-again Inv-loop μ-loop
-loop-again c = λ G S. c .pass .ensures G (c .before .before .before .before .before .loop .inv G S)
+loop-again c = λ L S. c .pass .ensures L (c .before .before .before .before .before .loop .inv L S)
 
 returns : tie.Need-returns Inv-loop μ-loop
-returns c = λ G S.
-    let T = c .before .loop .inv G S in
+returns c = λ L S.
+    let T = c .before .loop .inv L S in
     let e : c .before .loop .head ≡ c .before .loop .tail = omega (arith, T .inside, c .loop-test .left) in
     rw e at T
 

@@ -1,7 +1,7 @@
 -- `sheet::judged` meets its contract. Clause by clause, in order. Where there is no circle, all counts and ends are within the arrays. Assumes nothing.
 use mathlib.Core.Path.{sym, _∙_}
 use borrow.Author.Tests.{not-true, not-false}
-use Rattle.sheet.proofs.Clauses.{few-orbits, acyclic-ends, bad-root, cyclic, bad-poles, not-planar, all-met}
+use Rattle.sheet.proofs.Clauses.{acyclic-ends, bad-root, cyclic, bad-poles, by-faces}
 use borrow.Author.Needs.{needs}
 use Rattle.sheet.proofs.judged.Statement.{statement}
 use Rattle.sheet.proofs.judged.Tie as tie
@@ -42,53 +42,18 @@ returns-3 c =
     let root = lev .before .before .before in
     c .refuse3 .ensures ∙ bad-poles _ _ _ _ _ (sym (root .before .is-rooted .ensures) ∙ not-false _ (root .if1 .left)) _ (lev .before .before .levels .ensures) (not-false _ (lev .if2 .left)) (sym (pol .before .has-poles .ensures) ∙ not-true _ (pol .if3 .taken))
 
-walks-requires : tie.Need-walks-requires
-walks-requires c κs =
-    let lev = c .before .before in
-    acyclic-ends _ _ _ _ _ (lev .before .before .levels .ensures) (not-false _ (lev .if2 .left)) .1 .few
-
-mul-trace : tie.Need-mul-trace
-mul-trace c =
+faced-requires : tie.Need-faced-requires
+faced-requires c κs =
     let lev = c .before .before .before in
-    let few = acyclic-ends _ _ _ _ _ (lev .before .before .levels .ensures) (not-false _ (lev .if2 .left)) .1 .few in
-    search needs
-
-trace-requires : tie.Need-trace-requires
-trace-requires c κs = search needs
-
-add-if4 : tie.Need-add-if4
-add-if4 c =
-    let lev = c .before .before .before .before .before .before in
     let (n, ends, _) = acyclic-ends _ _ _ _ _ (lev .before .before .levels .ensures) (not-false _ (lev .if2 .left)) in
-    let count = few-orbits _ _ _ (c .before .trace .ensures) in
-    search needs
-
-add-if4-2 : tie.Need-add-if4-2
-add-if4-2 c =
-    let lev = c .before .before .before .before .before .before in
-    let few = acyclic-ends _ _ _ _ _ (lev .before .before .levels .ensures) (not-false _ (lev .if2 .left)) .1 .few in
-    search needs
-
-refuse-requires-4 : tie.Need-refuse-requires-4
-refuse-requires-4 c κs = search needs
+    (n, ends .few)
 
 returns-4 : tie.Need-returns-4
 returns-4 c =
-    let known = c .before .before in
-    let walked = known .before .before .before in
-    let pol = walked .before in
+    let pol = c .before .before in
     let lev = pol .before .before in
     let root = lev .before .before .before in
-    c .refuse4 .ensures ∙ not-planar _ _ _ _ _ (sym (root .before .is-rooted .ensures) ∙ not-false _ (root .if1 .left)) _ (lev .before .before .levels .ensures) (not-false _ (lev .if2 .left)) (sym (pol .before .has-poles .ensures) ∙ not-false _ (pol .if3 .left)) _ (walked .walks .ensures) _ (known .before .trace .ensures) (c .before .if4 .taken)
-
-returns-5 : tie.Need-returns-5
-returns-5 c =
-    let known = c .before .before .before in
-    let walked = known .before .before .before in
-    let pol = walked .before in
-    let lev = pol .before .before in
-    let root = lev .before .before .before in
-    all-met _ _ _ _ _ (sym (root .before .is-rooted .ensures) ∙ not-false _ (root .if1 .left)) _ (lev .before .before .levels .ensures) (not-false _ (lev .if2 .left)) (sym (pol .before .has-poles .ensures) ∙ not-false _ (pol .if3 .left)) _ (walked .walks .ensures) _ (known .before .trace .ensures) (c .before .before .if4 .left)
+    by-faces _ _ _ _ _ (sym (root .before .is-rooted .ensures) ∙ not-false _ (root .if1 .left)) _ (lev .before .before .levels .ensures) (not-false _ (lev .if2 .left)) (sym (pol .before .has-poles .ensures) ∙ not-false _ (pol .if3 .left)) _ (c .faced .ensures)
 
 pub judged-spec : {M : Type 1} → statement M
 judged-spec =
@@ -103,11 +68,5 @@ judged-spec =
     has-poles-requires
     refuse-requires-3
     returns-3
-    walks-requires
-    mul-trace
-    trace-requires
-    add-if4
-    add-if4-2
-    refuse-requires-4
-    returns-4
-    returns-5)
+    faced-requires
+    returns-4)

@@ -6,10 +6,10 @@ use lib.Dec.{eqb}
 use lib.ListN.{getD}
 use borrow.Author.Needs.{needs}
 use Rattle.counting.proofs.Counts.{count-le}
-use Rattle.clauses.specs.Contracts.{Held, Degrees}
-use Rattle.clauses.proofs.Rings.{held-none, held-more, degrees-more}
-use Rattle.clauses.proofs.some_darts.Statement.{statement}
-use Rattle.clauses.proofs.some_darts.Tie as tie
+use Rattle.rings.specs.Contracts.{Held, Degrees}
+use Rattle.rings.proofs.Rings.{held-none, held-more, degrees-more}
+use Rattle.rings.proofs.some_darts.Statement.{statement}
+use Rattle.rings.proofs.some_darts.Tie as tie
 
 abbrev Inv-loop : tie.InvT-loop
 Inv-loop darts at degree₀ held₀ d₀ degree held d = (d ≤ darts) × Held d at held × Degrees d at degree

@@ -23,9 +23,10 @@ use Rattle.orbits.specs.Tables.{traced, isPermutation}
 use Rattle.orbits.specs.Meaning.{entries, Numbering}
 use Rattle.orbits.proofs.Distinct.{permutation-law}
 use Rattle.orbits.proofs.Numbering.{traced-law}
 use Rattle.clauses.specs.Darts.{isTail}
-use Rattle.clauses.specs.Contracts.{Ends, dartTable, vertexOf, ringAt, Readable, Held, Degrees, OneRingEach, Round, ringsIn}
+use Rattle.clauses.specs.Contracts.{Ends, dartTable, vertexOf}
+use Rattle.rings.specs.Contracts.{ringAt, Readable, Held, Degrees, OneRingEach, Round, Covered, ringsIn}
 use Rattle.clauses.proofs.Below.{dart-at}
 
 -- of two tests
 split : (a b : Bool) → (a && b) ≡ true → (a ≡ true) × (b ≡ true)
@@ -122,14 +123,6 @@ module _ {n : ℕ} {at nexts : List ℕ} {start v d steps : ℕ} (G : Going n at
 
 -- ---- what a round covers
 
--- dart d is on the ring of the dart that is held for its vertex
-pub record Covered (n : ℕ) (at nexts held : List ℕ) (d : ℕ) : Type 0 where
-  pub below : getD nexts d 0 < n
-  pub stays : getD at (getD nexts d 0) 0 ≡ getD at d 0
-  pub before : (e : ℕ) × (e < n) × (getD nexts e 0 ≡ d)
-  pub home : getD held (getD at d 0) 0 < n
-  pub from : Reach (entries nexts) (getD held (getD at d 0) 0) d
-
 module _ {n : ℕ} {at nexts : List ℕ} {s v r : ℕ} (some : 0 < r) (R : Round n at nexts s v r) where
   -- its darts are different
   apart-on : (i j : ℕ) → i < j → j < r → iter (entries nexts) i s ≢ iter (entries nexts) j s
@@ -138,13 +131,13 @@ module _ {n : ℕ} {at nexts : List ℕ} {s v r : ℕ} (some : 0 < r) (R : Round
       R .first ((r - j) + i) (omega arith) (omega arith)
       (iter-add (entries nexts) (r - j) i s ∙ ap (iter (entries nexts) (r - j)) e ∙ sym (iter-add (entries nexts) (r - j) j s) ∙ ap (λ k. iter (entries nexts) k s) z ∙ R .back)
 
-  once : (i j : ℕ) → i < r → j < r → iter (entries nexts) i s ≡ iter (entries nexts) j s → i ≡ j
+  pub once : (i j : ℕ) → i < r → j < r → iter (entries nexts) i s ≡ iter (entries nexts) j s → i ≡ j
   once i j l m e =
       by-cases (decLt i j) (λ b. absurd (apart-on i j b m e))
       (λ b. by-cases (decLt j i) (λ c. absurd (apart-on j i c l (sym e))) (λ c. omega arith))
 
   -- and where they are as many as the vertex has, every dart of the vertex is among them
-  round-all : count (λ d. eqb (getD at d 0) v) n ≤ r → (d : ℕ) → d < n → getD at d 0 ≡ v → (i : ℕ) × (i < r) × (iter (entries nexts) i s ≡ d)
+  pub round-all : count (λ d. eqb (getD at d 0) v) n ≤ r → (d : ℕ) → d < n → getD at d 0 ≡ v → (i : ℕ) × (i < r) × (iter (entries nexts) i s ≡ d)
   round-all full d l e =
       room-onto (λ d. eqb (getD at d 0) v) n r (λ i. iter (entries nexts) i s) (λ i b. (R .inside i b, eq-eqb _ _ (R .there i b))) once full d l (eq-eqb _ _ e)
 
@@ -158,7 +151,7 @@ module _ {n : ℕ} {at nexts : List ℕ} {s v r : ℕ} (some : 0 < r) (R : Round
           let (j, b, w) = around (entries nexts) s r some (R .back) k in
           (j, b, refl, w ∙ q)
 
-  round-covers : (held : List ℕ) → s ≡ getD held v 0 → (d : ℕ) → getD at d 0 ≡ v → (i : ℕ) × (i < r) × (iter (entries nexts) i s ≡ d) → Covered n at nexts held d
+  pub round-covers : (held : List ℕ) → s ≡ getD held v 0 → (d : ℕ) → getD at d 0 ≡ v → (i : ℕ) × (i < r) × (iter (entries nexts) i s ≡ d) → Covered n at nexts held d
   round-covers held es d e (i, l, q) =
       let (j, b, w) = around (entries nexts) s r some (R .back) (suc i) in
       let next : iter (entries nexts) j s ≡ getD nexts d 0 = w ∙ ap (entries nexts) q in
@@ -193,43 +186,25 @@ module _ {n : ℕ} {at nexts : List ℕ} {start v d steps : ℕ} (G : Going n at
 
 -- ---- the rings of all vertices
 
--- the darts of the vertices below v are on the rings of the darts that are held for these
-pub record Ringed (n : ℕ) (at nexts held : List ℕ) (v : ℕ) : Type 0 where
-  pub covers : (d : ℕ) → d < n → getD at d 0 < v → Covered n at nexts held d
-
 -- the dart that is held for a vertex is there
 pub held-there : {n : ℕ} {at held : List ℕ} → Readable n at → Held n at held → (u : ℕ) → u < 128 → getD held u 0 < n → getD at (getD held u 0) 0 ≡ u
 held-there r H u l b = ⊎-elim (λ z. absurd (omega (arith, r .few))) (λ t. t .1) (H .there u l)
 
-module _ {n : ℕ} {at held : List ℕ} (nexts : List ℕ) (r : Readable n at) (H : Held n at held) where
-  pub ringed-none : Ringed n at nexts held 0
-  ringed-none = record { covers = λ d l b. absurd (omega arith) }
+-- every dart is on the ring of the dart that is held for its vertex
+module _ {n : ℕ} {at nexts held : List ℕ} (on : (d : ℕ) → d < n → Covered n at nexts held d) where
+  permuted : Perm n (entries nexts)
+  permuted = record {
+    below = λ d l. on d l .below;
+    one-one = λ d e i j q.
+        onto-injective (entries nexts) all n all n (λ x l t. let (y, b, w) = on x l .before in (y, b, refl, w)) (omega arith) d e i refl j refl q;
+  }
 
-  module _ {v : ℕ} (G : Ringed n at nexts held v) where
-    -- no dart is at v
-    pub ringed-skip : n ≤ getD held v 0 → Ringed n at nexts held (v + 1)
-    ringed-skip l = record { covers = λ d b m. by-cases (ℕ-discrete (getD at d 0) v) (λ z. absurd (omega (arith, ap (entries held) z, H .some d b))) (λ z. G .covers d b (omega arith)) }
-
-    pub ringed-more : (start : ℕ) → start ≡ getD held v 0 → start < n → {size : ℕ} → size ≡ count (λ d. eqb (getD at d 0) v) n → Round n at nexts start v size → Ringed n at nexts held (v + 1)
-    ringed-more start es h {size} many R = record {
-      covers = λ d b m. by-cases (ℕ-discrete (getD at d 0) v)
-          (λ z. let some : 0 < size = omega (arith, many, count-without (λ d. eqb (getD at d 0) v) n d b (eq-eqb _ _ z)) in
-          round-covers some R held es d z (round-all some R (omega (arith, many)) d b z))
-          (λ z. G .covers d b (omega arith));
-    }
-
-  ringed-all : Ringed n at nexts held 128 → OneRingEach n at nexts
-  ringed-all G = record { permuted = P; stays = λ d l. on d l .stays; joined = λ d e i j q. reach-trans (reach-sym P (on d i .home) (on d i .from)) (rw (← q) at (on e j .from)) }
-    where
-      on : (d : ℕ) → d < n → Covered n at nexts held d
-      on d l = G .covers d l (r .at-in d l)
-
-      P : Perm n (entries nexts)
-      P = record {
-        below = λ d l. on d l .below;
-        one-one = λ d e i j q.
-            onto-injective (entries nexts) all n all n (λ x l t. let (y, b, w) = on x l .before in (y, b, refl, w)) (omega arith) d e i refl j refl q;
-      }
+  covered-all : OneRingEach n at nexts
+  covered-all = record {
+    permuted = permuted;
+    stays = λ d l. on d l .stays;
+    joined = λ d e i j q. reach-trans (reach-sym permuted (on d i .home) (on d i .from)) (rw (← q) at (on e j .from));
+  }
 
 -- ---- the same by the definitions that compute
 
@@ -277,20 +252,8 @@ module _ (n : ℕ) (at nexts : List ℕ) (fits : n ≤ 512) where
       joined = λ d e i j q. traced-law n nexts fits P .same d e i j .0 (in-one d e i j q);
     }
 
-  pub rings-refused : (OneRingEach n at nexts → ⊥) → false ≡ ringsIn n at nexts
-  rings-refused f = by-bool (ringsIn n at nexts) (λ t. absurd (f (one-ring-each t))) (λ t. sym t)
+  pub rings-refused : (OneRingEach n at nexts → ⊥) → ringsIn n at nexts ≡ false
+  rings-refused f = by-bool (ringsIn n at nexts) (λ t. absurd (f (one-ring-each t))) (λ t. t)
 
-pub rings-met : {n : ℕ} {at held : List ℕ} (nexts : List ℕ) (r : Readable n at) → Held n at held → Ringed n at nexts held 128 → true ≡ ringsIn n at nexts
-rings-met {n} {at} nexts r H G = sym (right n at nexts (r .few) (ringed-all nexts r H G))
-
--- what the functions behind the rings ask of each other
-vertex-below : {n m : ℕ} {tails heads : List ℕ} → Ends n m tails → Ends n m heads → (d : ℕ) → d < 2 * m → vertexOf tails heads d < n
-unfolding vertexOf
-vertex-below t h d l = by-bool (isTail d) (λ z. rw z (t .inside (d / 2) (omega arith))) (λ z. rw z (h .inside (d / 2) (omega arith)))
-
-pub readable : (m : ℕ) (tails heads : List ℕ) → Ends 128 m tails → Ends 128 m heads → Readable (2 * m) (dartTable (vertexOf tails heads) (2 * m))
-readable m tails heads t h =
-    record {
-      few = omega (arith, t .few);
-      at-in = λ d l. rw (dart-at (vertexOf tails heads) (2 * m) d l) (vertex-below t h d l);
-    }
+pub rings-met : {n : ℕ} {at nexts held : List ℕ} → n ≤ 512 → ((d : ℕ) → d < n → Covered n at nexts held d) → ringsIn n at nexts ≡ true
+rings-met {n} {at} {nexts} few on = right n at nexts few (covered-all on)
