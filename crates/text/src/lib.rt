@@ -79,23 +79,28 @@ pub fn number_at(s: &[u8], at: usize) -> Number
     Number::Missing
 }
 
-// Whether a key stands at a place.
+// Whether a key stands at a place; a key of no bytes stands everywhere. All its bytes are compared, which takes no branch.
 pub fn starts_with(s: &[u8], at: usize, key: &[u8]) -> bool
     ensures { λ r. ⌜ r ≡ startsWith (now (key .entry)) (drop at (now (s .entry))) ⌝ }
 {
-    let mut i = at;
+    if key.len() == 0 {
+        return true;
+    }
+    if s.len() < key.len() {
+        return false;
+    }
+    if s.len() - key.len() < at {
+        return false;
+    }
+    let mut same = true;
     let mut j = 0;
     while j < key.len() {
-        if s.len() <= i {
-            return false;
+        if s[at + j] != key[j] {
+            same = false;
         }
-        if s[i] != key[j] {
-            return false;
-        }
-        i += 1;
         j += 1;
     }
-    true
+    same
 }
 
 // How many bytes a line end at a place has, 0 where there is none.
