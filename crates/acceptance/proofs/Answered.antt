@@ -20,10 +20,9 @@ use Rattle.answers.proofs.Refusals.{accepted-is}
 use Rattle.answers.proofs.Clauses.{Agree, first-number}
 use Rattle.answers.proofs.Clauses.Agree.{none, then}
 use Rattle.sheet.specs.declared.Sheet.{Sheet}
-use Rattle.sheet.specs.Darts.{touches}
 use Rattle.sheet.specs.Check.{judge, rooted, acyclic, poles, planar}
 use Rattle.soundness.specs.Laws.{Lined}
-use Rattle.soundness.proofs.Tests.{Says, le-says, reworded, and-says, not-says}
+use Rattle.soundness.proofs.Tests.{le-says, and-says, not-says}
 use Rattle.soundness.proofs.Clauses.{limits-law, joined-law, rooted-law, poles-law}
 use Rattle.soundness.proofs.Rings.{rings-rotation, rings-law}
 use Rattle.soundness.proofs.Faces.{planar-law}

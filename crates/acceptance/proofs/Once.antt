@@ -15,7 +15,6 @@ use Rattle.answers.specs.Refusals.{isAccepted}
 use Rattle.answers.specs.Clauses.{First}
 use Rattle.answers.proofs.Clauses.{first-once}
 use Rattle.sheet.specs.declared.Sheet.{Sheet}
-use Rattle.sheet.specs.Darts.{touches}
 use Rattle.sheet.specs.Check.{judge}
 use Rattle.load.specs.Rings.{isRotation, linkRing}
 use Rattle.load.specs.Load.{Parsed, emptySheet, withEdge, withNexts, judged, ringLines, edgeLines, withCount, parse, loaded}

@@ -1,11 +1,10 @@
 // The clauses of soundness over the arrays of a sheet, each in time linear in them.
 ghost use mathlib.Core.Path.{_≡_};
 ghost use mathlib.Core.Bool.{true, false, not, _&&_};
-ghost use Prim.Native.Nat.{ℕ, _*_, _≤_, _<_};
+ghost use Prim.Native.Nat.{_*_, _≤_, _<_};
 ghost use lib.Dec.{eqb, ltb};
-ghost use lib.ListN.{getD, length};
+ghost use lib.ListN.{length};
 ghost use Rattle.counting.specs.Below.{allBelow, tabulate};
-ghost use Rattle.counting.specs.Counts.{count};
 ghost use Rattle.clauses.specs.Contracts.{limitsOf, joinsAt, zeroAt, unusedOf, Ends, dartTable, vertexOf, walkOf, endOf, poleAt, polesOf, rootedOf};
 use counting::wide;
 

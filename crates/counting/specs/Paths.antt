@@ -1,5 +1,4 @@
 -- Directed paths over any relation `Step` on numbers: `Step u v` says that an edge leads from u to v.
-use mathlib.Core.Path.{_≡_}
 use Prim.Native.Nat.{ℕ, suc, _≤_}
 
 -- a directed path of k edges from a

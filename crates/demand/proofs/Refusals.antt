@@ -8,7 +8,7 @@ use native.Mathlib.Omega.{arith}
 use lib.Dec.{eqb}
 use borrow.Author.Tests.{eqb-true, eq-eqb, ne-eqb}
 use Rattle.counting.specs.Counts.{count}
-use Rattle.counting.proofs.Iterate.{by-bool, not-false}
+use Rattle.counting.proofs.Iterate.{not-false}
 use Rattle.counting.proofs.Counts.{count-onto}
 use Rattle.counting.proofs.Orbits.{kept-joined}
 use Rattle.answers.specs.declared.Answer.the-variants.{NotSound, NotInSheet, Full, RootEdge, CornersApart, ClosesCircle, EdgeNeeded, VertexNeeded}
@@ -28,7 +28,7 @@ use Rattle.soundness.proofs.Law.{sound-law, rotation-of}
 use Rattle.soundness.proofs.Faces.{walk-perm}
 use Rattle.soundness.proofs.Columns.{column-law}
 use Rattle.soundness.proofs.Darts.{dart-vertex, opposite-below}
-use Rattle.soundness.proofs.Ends.{EndAt, at-below, at-end, end-touches, end-at}
+use Rattle.soundness.proofs.Ends.{EndAt, at-below, end-touches, end-at}
 use Rattle.edit.specs.Calls.{putInAnswer, runAnswer, takeOutEdgeAnswer, takeOutVertexAnswer, cornerFace, outDegree, inDegree, noVertex, noEdge}
 use Rattle.preservation.proofs.Accepted.{neither, not-at-most}
 use Rattle.preservation.proofs.Degrees.{another, only-one}

@@ -1,8 +1,7 @@
 -- Levels of small digraphs, by computing. Assumes nothing.
 use mathlib.Core.Path.{_≡_, refl}
 use mathlib.Core.Bool.{true, false}
-use mathlib.Core.List.{List, [], _∷_, _++_}
-use Prim.Native.Nat.{ℕ}
+use mathlib.Core.List.{[], _∷_, _++_}
 use lib.ListN.{replicate}
 use Rattle.digraph.specs.Digraph.{flat}
 use Rattle.digraph.specs.Relaxed.{joins, withinOf, raised, relaxed, rounds, climbs, answer, levelsOf}

@@ -1,5 +1,5 @@
 -- The drawing that is composed from rows and columns is the drawing of the sheet. Assumes nothing.
-use Prim.Native.Nat.{ℕ, _+_, _<_, min, max}
+use Prim.Native.Nat.{ℕ, _+_, _<_}
 use mathlib.Core.Path.{_≡_, refl, _∙_}
 use mathlib.Core.Logic.{by-cases}
 use mathlib.Core.Bool.{true}

@@ -6,7 +6,6 @@ use Rattle.answers.specs.Answers.{refusalNumber}
 use Rattle.answers.specs.Refusals.{first, isAccepted}
 use Rattle.sheet.specs.declared.Sheet.{Sheet}
 use Rattle.sheet.specs.Check.{sound}
-use Rattle.drawing.specs.declared.Drawn.{Drawn}
 use Rattle.drawing.specs.Draw.{drawingOf, drawAnswer, drawCall}
 
 pub sound-drawn : (s : Sheet) → sound s ≡ true → drawCall s ≡ record { answer = Accepted; drawing = drawingOf s }

@@ -13,7 +13,7 @@ use Rattle.sheet.specs.Sound.{Sound}
 use Rattle.drawing.specs.declared.VertexSegment.{VertexSegment}
 use Rattle.drawing.specs.declared.EdgeSegment.{EdgeSegment}
 use Rattle.drawing.specs.declared.Drawing.{Drawing}
-use Rattle.drawing.specs.Draw.{noVertexSegment, noEdgeSegment, drawingOf}
+use Rattle.drawing.specs.Draw.{noVertexSegment, noEdgeSegment}
 use Rattle.drawing.specs.Points.{vertexOf, edgeOf}
 use Rattle.drawing.specs.Laid.{Laid, Laid-Law}
 use Rattle.drawing.proofs.Laid.{drawing-laid}

@@ -1,15 +1,14 @@
 -- The line at the front of a text, and the edit that it reads as. Assumes nothing.
 use Prim.Native.Nat.{ℕ, suc, _+_, _≤_, _<_}
-use mathlib.Core.Path.{_≡_, refl, sym, ap, _∙_}
-use mathlib.Core.Logic.{_≢_}
-use mathlib.Core.List.{List, [], _∷_}
+use mathlib.Core.Path.{_≡_, sym, ap, _∙_}
+use mathlib.Core.List.{List, _∷_}
 use native.Mathlib.Numerals.{add-one}
 use native.Mathlib.Omega.{arith}
 use borrow.Author.Tests.{eq-eqb, ne-eqb}
 use lib.ListN.{getD, length, drop, drop-of-length-le}
 use lib.Seq.{drop-cons}
 use Rattle.text.specs.declared.Numbers.{Numbers}
-use Rattle.text.specs.Reading.{Listed, numbersOf, lastLineAt}
+use Rattle.text.specs.Reading.{numbersOf, lastLineAt}
 use Rattle.text.specs.Shapes.{withOne, withFour}
 use Rattle.text.proofs.Counted.{one-is, one-not, four-is, four-not}
 use Rattle.edit.specs.declared.Edit.{Edit}

@@ -1,7 +1,7 @@
 -- The four edits as calls: what each refuses, in order, and the sheet afterwards.
 use Prim.Native.Nat.{ℕ}
 use mathlib.Core.Bool.{Bool, not, _&&_, _||_}
-use mathlib.Core.List.{List, [], _∷_}
+use mathlib.Core.List.{[], _∷_}
 use lib.Dec.{eqb, leb}
 use Rattle.counting.specs.Counts.{count}
 use Rattle.counting.specs.Choice.{pick}

@@ -4,7 +4,7 @@ use mathlib.Core.Bool.{cond}
 use mathlib.Core.List.{List, [], _∷_}
 use lib.Dec.{eqb}
 use Rattle.text.specs.Bytes.{bytes}
-use Rattle.text.specs.Reading.{lineAt, lastLineAt}
+use Rattle.text.specs.Reading.{lastLineAt}
 use Rattle.text.specs.Shapes.{withOne, withFour}
 use Rattle.answers.specs.declared.Answer.{Answer}
 use Rattle.answers.specs.declared.Answer.the-variants.{Accepted, BadLayout}

@@ -14,7 +14,7 @@ use Rattle.text.specs.Written.{decimal, separated, line}
 use Rattle.answers.specs.Answers.{refusalNumber}
 use Rattle.answers.specs.Refusals.{first, isAccepted}
 use Rattle.clauses.specs.Darts.{opposite, touchesOf, dartOf}
-use Rattle.sheet.specs.Darts.{vertex, touches, dartAt}
+use Rattle.sheet.specs.Darts.{vertex}
 use Rattle.sheet.specs.Fresh.{freshSheet}
 use Rattle.sheet.specs.Check.{sound, withinLimits, joined, inRings, unusedZero, rooted, acyclic, rowLevels, poles, incoming, outgoing, planar, faceTable, columnLevels, faceFrom, faceTo, edgeTable, judge}
 use Rattle.sheet.specs.Contracts.{structured}

@@ -1,21 +1,17 @@
 -- How many edges have an end at each vertex, counted edge by edge. Assumes nothing.
-use Prim.Native.Nat.{ℕ, zero, suc, _+_, _≤_, _<_}
+use Prim.Native.Nat.{ℕ, _+_, _≤_, _<_}
 use mathlib.Core.Path.{_≡_, refl, sym, ap, _∙_}
 use mathlib.Core.Logic.{_≢_, by-cases}
-use mathlib.Core.Bool.{Bool, true, false, or-true}
 use mathlib.Core.List.{List}
 use native.Mathlib.Decide.{ℕ-discrete}
 use native.Mathlib.Numerals.{add-one}
 use native.Mathlib.Omega.{arith}
-use borrow.Author.Tests.{eq-eqb, ne-eqb}
-use lib.Dec.{eqb}
 use lib.ListN.{getD, set, length, length-set}
 use lib.Seq.{getD-set-same, getD-set-other}
 use Rattle.clauses.specs.Darts.{touchesOf}
 use Rattle.clauses.proofs.Touching.{touches-tail, touches-head, touches-not}
 use Rattle.counting.specs.Counts.{bit, count}
 use Rattle.counting.proofs.Counts.{count-le}
-use Rattle.counting.proofs.Iterate.{by-bool}
 use Rattle.load.specs.Contracts.{Joint}
 
 module _ (tails heads : List ℕ) where

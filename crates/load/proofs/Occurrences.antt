@@ -14,7 +14,6 @@ use lib.Seq.{getD-set-same, getD-set-other}
 use Rattle.clauses.specs.Darts.{touchesOf}
 use Rattle.counting.specs.Counts.{bit, count}
 use Rattle.counting.proofs.Iterate.{total, by-bool}
-use Rattle.sheet.specs.Darts.{touches}
 use Rattle.counting.proofs.Below.{all-at, all-of}
 use Rattle.load.specs.Rings.{occurrences, allIn, isRotation}
 use Rattle.sheet.specs.Darts.{sheetOf}

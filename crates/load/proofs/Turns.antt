@@ -21,7 +21,6 @@ use Rattle.text.specs.declared.Pair.the-variants.{Two, Other}
 use Rattle.text.specs.Shapes.{withOne, withSome, pairOf}
 use Rattle.text.proofs.Counted.{one-is, one-not, two-is, two-not}
 use Rattle.sheet.specs.declared.Sheet.{Sheet}
-use Rattle.sheet.specs.Darts.{dartAt}
 use Rattle.answers.specs.Refusals.{isAccepted}
 use Rattle.sheet.specs.Check.{judge}
 use Rattle.answers.specs.declared.Answer.{Answer}

@@ -4,7 +4,6 @@ use mathlib.Core.Path.{_≡_, refl, sym, _∙_, ap}
 use mathlib.Core.Logic.{_≢_}
 use mathlib.Core.Bool.{Bool, true, false}
 use native.Mathlib.Omega.{arith}
-use Rattle.counting.specs.Paths.{Circle}
 use Rattle.counting.proofs.Paths.{no-circle}
 use Rattle.counting.proofs.Iterate.{clash}
 use Rattle.planarmap.specs.Map.{Plane}
@@ -12,7 +11,7 @@ use Rattle.surgery.specs.Edits.{Grown}
 use Rattle.surgery.specs.Statements.{Walks, Rises}
 use Rattle.sheet.specs.declared.Sheet.{Sheet}
 use Rattle.clauses.specs.Darts.{headDart, isTail, opposite}
-use Rattle.sheet.specs.Darts.{tail, head, darts, vertex, next}
+use Rattle.sheet.specs.Darts.{darts, vertex}
 use Rattle.sheet.specs.Sound.{Ring, Leads, Incoming, Outgoing, Sound}
 use Rattle.sheet.specs.Check.{face, faceCount}
 use Rattle.soundness.specs.Maps.{mapWith}

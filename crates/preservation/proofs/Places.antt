@@ -1,13 +1,13 @@
 -- What stands at a place of an array after darts were renamed. Assumes nothing.
-use Prim.Native.Nat.{ℕ, zero, suc, _+_, _*_, _≤_, _<_}
+use Prim.Native.Nat.{ℕ, zero, suc, _<_}
 use mathlib.Core.Path.{_≡_, refl, sym, _∙_, ap}
 use mathlib.Core.Logic.{_≢_}
 use mathlib.Core.List.{List, [], _∷_, map}
 use native.Mathlib.Omega.{arith}
-use lib.ListN.{getD, set, length, length-map, length-set, List·getD-eq-default}
+use lib.ListN.{getD, set, length, length-map, length-set}
 use lib.Seq.{getD-set-same, getD-set-other}
 use borrow.Author.Tests.{eq-eqb, ne-eqb}
-use Rattle.edit.specs.Changes.{renamed, replaceDart, insertDart, removeDart}
+use Rattle.edit.specs.Changes.{renamed, replaceDart, insertDart}
 
 pub renamed-old : (a b : ℕ) → renamed a b a ≡ b
 unfolding renamed

@@ -1,5 +1,5 @@
 -- Put in keeps a sheet sound. Assumes nothing.
-use Prim.Native.Nat.{ℕ, suc, _+_, _*_, _≤_, _<_}
+use Prim.Native.Nat.{ℕ, suc, _+_, _≤_, _<_}
 use mathlib.Core.Path.{_≡_, refl, sym, _∙_, ap}
 use mathlib.Core.Logic.{_≢_, by-cases}
 use mathlib.Core.Bool.{Bool, true, false, not, _||_}
@@ -14,9 +14,9 @@ use Rattle.surgery.specs.Edits.{Subdivided}
 use Rattle.surgery.proofs.Grow.{head-not-alone}
 use Rattle.surgery.proofs.Subdivide.{subdivided-plane, subdivided-rises}
 use Rattle.sheet.specs.declared.Sheet.{Sheet}
-use Rattle.clauses.specs.Darts.{tailDart, headDart, isTail, opposite}
+use Rattle.clauses.specs.Darts.{tailDart, headDart, opposite}
 use Rattle.sheet.specs.Darts.{Sized, tail, head, darts, vertex, next}
-use Rattle.sheet.specs.Sound.{Joins, Unused, Sound}
+use Rattle.sheet.specs.Sound.{Joins, Sound}
 use Rattle.sheet.specs.Check.{sound, row}
 use Rattle.soundness.specs.Maps.{mapWith, mapOf}
 use Rattle.soundness.proofs.Darts.{dart, dart-kind, dart-below, by-dart, dart-opposite, dart-vertex}

@@ -1,5 +1,5 @@
 -- Run keeps a sheet sound. Assumes nothing.
-use Prim.Native.Nat.{ℕ, suc, _+_, _*_, _≤_, _<_}
+use Prim.Native.Nat.{ℕ, suc, _+_, _≤_, _<_}
 use mathlib.Core.Path.{_≡_, refl, sym, _∙_, ap}
 use mathlib.Core.Logic.{_≢_, by-cases}
 use mathlib.Core.Bool.{Bool, true, false, not, _||_}
@@ -8,9 +8,8 @@ use native.Mathlib.Decide.{ℕ-discrete}
 use native.Mathlib.Omega.{arith}
 use lib.Dec.{eqb}
 use borrow.Author.Tests.{eqb-true}
-use lib.ListN.{getD, set, length, length-set}
+use lib.ListN.{getD, length, length-set}
 use lib.Seq.{getD-set-same, getD-set-other}
-use Rattle.counting.specs.Paths.{Path}
 use Rattle.counting.specs.Paths.Path.{here, more}
 use Rattle.counting.proofs.Iterate.{not-false, clash}
 use Rattle.surgery.specs.Edits.{Added}
@@ -20,10 +19,10 @@ use Rattle.answers.specs.Answers.{refusalNumber}
 use Rattle.sheet.specs.declared.Sheet.{Sheet}
 use Rattle.clauses.specs.Darts.{tailDart, headDart, isTail, opposite}
 use Rattle.sheet.specs.Darts.{Sized, tail, head, darts, vertex, touches, dartAt, next}
-use Rattle.sheet.specs.Sound.{Joins, Unused, Leads, Sound}
-use Rattle.sheet.specs.Check.{sound, row, face}
+use Rattle.sheet.specs.Sound.{Joins, Sound}
+use Rattle.sheet.specs.Check.{sound, row}
 use Rattle.soundness.specs.Maps.{mapWith, mapOf}
-use Rattle.soundness.proofs.Darts.{dart, dart-kind, dart-below, by-dart, dart-opposite, dart-vertex}
+use Rattle.soundness.proofs.Darts.{dart, dart-kind, by-dart, dart-opposite, dart-vertex}
 use Rattle.soundness.proofs.Ends.{at-below, at-end}
 use Rattle.soundness.proofs.Plane.{plane-of}
 use Rattle.soundness.proofs.Law.{sound-law}

@@ -1,6 +1,6 @@
 -- All vertices: their rings and levels are right; or some ring is not, or there is a circle. Assumes nothing.
 use Prim.Native.Nat.{ℕ, _+_, _*_, _≤_, _<_}
-use mathlib.Core.Path.{_≡_, refl, sym, ap, _∙_}
+use mathlib.Core.Path.{_≡_, refl, sym, _∙_}
 use mathlib.Core.Bool.{true, false}
 use mathlib.Core.List.{List}
 use native.Mathlib.Omega.{arith}
@@ -10,7 +10,6 @@ use Rattle.counting.proofs.Iterate.{by-bool}
 use Rattle.counting.proofs.Counts.{count-full}
 use Rattle.digraph.specs.declared.Layering.{Layering}
 use Rattle.digraph.specs.Digraph.{Within, flat}
-use Rattle.digraph.specs.Relaxed.{withinOf, levelsOf}
 use Rattle.digraph.specs.Contracts.{Waiting, Queued, ready, Settled}
 use Rattle.digraph.proofs.Tests.{within-true}
 use Rattle.digraph.proofs.Relaxation.{right}
@@ -18,7 +17,7 @@ use Rattle.digraph.proofs.Settling.{start, acyclic, cyclic}
 use Rattle.clauses.specs.Contracts.{Ends, dartTable, vertexOf}
 use Rattle.clauses.proofs.Below.{dart-at}
 use Rattle.clauses.proofs.Tables.{tail-vertex, head-vertex}
-use Rattle.rings.specs.Contracts.{OneRingEach, Held, Degrees, Covered, Placed, Underway, PassedOn, ringsIn, ringsOf, ringLevels}
+use Rattle.rings.specs.Contracts.{OneRingEach, Held, Degrees, Covered, Placed, Underway, PassedOn, ringsOf, ringLevels}
 use Rattle.rings.proofs.Rings.{rings-refused, rings-met}
 use Rattle.rings.proofs.Walking.{vertex-in}
 

@@ -1,5 +1,5 @@
 -- One ring at each vertex: the ring of one dart of each has as many darts as the vertex, all at it. Assumes nothing.
-use Prim.Native.Nat.{ℕ, zero, suc, _+_, _-_, _*_, _/_, _≤_, _<_}
+use Prim.Native.Nat.{ℕ, zero, suc, _+_, _-_, _≤_, _<_}
 use mathlib.Core.Path.{_≡_, refl, sym, ap, _∙_}
 use mathlib.Core.Logic.{_≢_, _⊎_, inl, inr, ⊎-elim, by-cases}
 use mathlib.Core.Bool.{Bool, true, false, not, _&&_, _||_}
@@ -13,7 +13,7 @@ use lib.ListN.{getD, set, length-set, replicate, length-replicate, getD-replicat
 use Rattle.counting.specs.Below.{allBelow}
 use Rattle.counting.specs.Counts.{bit, count}
 use Rattle.counting.specs.Orbits.{Perm, iter, Reach}
-use Rattle.counting.proofs.Counts.{all, count-all, count-without, count-room, room-onto, Onto, onto-count, onto-injective}
+use Rattle.counting.proofs.Counts.{all, count-all, count-room, room-onto, Onto, onto-count, onto-injective}
 use Rattle.counting.proofs.Iterate.{by-bool, clash, iter-add, around}
 use Rattle.counting.proofs.Below.{all-at, all-of}
 use Rattle.counting.proofs.Reach.{iter-one-one, reach-trans, reach-sym}
@@ -23,10 +23,7 @@ use Rattle.orbits.specs.Tables.{traced, isPermutation}
 use Rattle.orbits.specs.Meaning.{entries, Numbering}
 use Rattle.orbits.proofs.Distinct.{permutation-law}
 use Rattle.orbits.proofs.Numbering.{traced-law}
-use Rattle.clauses.specs.Darts.{isTail}
-use Rattle.clauses.specs.Contracts.{Ends, dartTable, vertexOf}
 use Rattle.rings.specs.Contracts.{ringAt, Readable, Held, Degrees, OneRingEach, Round, Covered, ringsIn}
-use Rattle.clauses.proofs.Below.{dart-at}
 
 -- of two tests
 split : (a b : Bool) → (a && b) ≡ true → (a ≡ true) × (b ≡ true)

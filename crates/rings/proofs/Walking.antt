@@ -1,7 +1,7 @@
 -- A walk round one vertex passes the edges out of it. Assumes nothing.
 use Prim.Native.Nat.{ℕ, suc, _+_, _-_, _*_, _/_, _%_, _≤_, _<_, max}
 use mathlib.Core.Path.{_≡_, refl, sym, ap, _∙_}
-use mathlib.Core.Logic.{_≢_, _⊎_, inl, inr, ⊎-elim, by-cases}
+use mathlib.Core.Logic.{_≢_, _⊎_, inl, inr, by-cases}
 use mathlib.Core.Bool.{Bool, true, false, not, Bool·beq, true≢false, false≢true}
 use mathlib.Core.List.{List}
 use native.Mathlib.Decide.{ℕ-discrete}
@@ -19,7 +19,7 @@ use Rattle.digraph.specs.Relaxed.{higherOf}
 use Rattle.digraph.specs.Contracts.{Graph, Settled}
 use Rattle.digraph.proofs.Waits.{tail-in}
 use Rattle.digraph.proofs.Passing.{Turn, begin, next, skip, finish}
-use Rattle.rings.specs.Contracts.{Readable, Held, Round, Placed, headOf, outOf, Stepped, Underway, PassedOn}
+use Rattle.rings.specs.Contracts.{Readable, Round, Placed, headOf, outOf, Stepped, Underway, PassedOn}
 use Rattle.rings.proofs.Rings.{once, round-all, round-covers, held-there}
 
 -- what the step of one dart stores

@@ -2,7 +2,7 @@
 // vertex. The vertices are taken in topological order, and the ring of each is walked once.
 ghost use mathlib.Core.Path.{_≡_};
 ghost use mathlib.Core.Bool.{true, false};
-ghost use Prim.Native.Nat.{ℕ, _+_, _-_, _*_, _≤_, _<_, max};
+ghost use Prim.Native.Nat.{_+_, _-_, _*_, _≤_, _<_, max};
 ghost use Rattle.clauses.specs.Contracts.{Ends};
 ghost use Rattle.rings.specs.Contracts.{headOf, Readable, Held, Degrees, OneRingEach, Stepped, Underway, PassedOn, ringLevels};
 use counting::bit;

@@ -18,7 +18,7 @@ use Rattle.answers.specs.declared.Answer.the-variants.{Accepted}
 use Rattle.answers.specs.Answers.{refusalNumber}
 use Rattle.answers.specs.Refusals.{isAccepted}
 use Rattle.answers.proofs.Refusals.{accepted-is}
-use Rattle.sheet.specs.Darts.{Sized, tail, head, darts, touches, dartAt, next}
+use Rattle.sheet.specs.Darts.{Sized, tail, head, darts, next}
 use Rattle.sheet.specs.Sound.{Limits, Joins, Sound}
 use Rattle.sheet.specs.Check.{judge}
 use Rattle.soundness.proofs.Tests.{Says, lt-says, le-says, eq-says, and-says, not-says}

@@ -21,7 +21,7 @@ use Rattle.sheet.specs.declared.Sheet.{Sheet}
 use Rattle.answers.specs.declared.Answer.the-variants.{Accepted}
 use Rattle.answers.specs.Answers.{refusalNumber}
 use Rattle.answers.specs.Refusals.{isAccepted}
-use Rattle.sheet.specs.Darts.{Sized, tail, head, darts, touches, vertex, next}
+use Rattle.sheet.specs.Darts.{Sized, tail, head, darts, vertex, next}
 use Rattle.sheet.specs.Sound.{Joins, Sound}
 use Rattle.soundness.proofs.Rings.{vertex-below}
 use Rattle.soundness.proofs.Judge.{passed-says, judge-law}

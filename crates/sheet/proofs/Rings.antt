@@ -2,7 +2,6 @@
 use Prim.Native.Nat.{ℕ, _<_}
 use mathlib.Core.Path.{_≡_, refl, sym, ap}
 use mathlib.Core.Bool.{Bool, not, _&&_, _||_}
-use mathlib.Core.List.{List}
 use lib.Dec.{eqb}
 use lib.ListN.{getD}
 use Rattle.counting.specs.Below.{allBelow}
@@ -10,7 +9,6 @@ use Rattle.counting.proofs.Iterate.{by-bool}
 use Rattle.counting.proofs.Below.{all-agree}
 use Rattle.orbits.specs.Tables.{traced, isPermutation}
 use Rattle.orbits.proofs.Distinct.{permutation-law}
-use Rattle.clauses.specs.Darts.{isTail}
 use Rattle.clauses.specs.Contracts.{dartTable, vertexOf}
 use Rattle.rings.specs.Contracts.{ringAt, ringsIn, ringsOf}
 use Rattle.clauses.proofs.Below.{dart-at}

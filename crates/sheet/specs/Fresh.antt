@@ -1,6 +1,5 @@
 -- The fresh sheet: bars 0 and 1, wires 0 and 1 both from 0 to 1.
-use Prim.Native.Nat.{ℕ}
-use mathlib.Core.List.{List, [], _∷_, _++_}
+use mathlib.Core.List.{_∷_}
 use lib.ListN.{replicate}
 use Rattle.sheet.specs.declared.Sheet.{Sheet}
 

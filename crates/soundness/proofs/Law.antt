@@ -45,9 +45,6 @@ module _ (s : Sheet) (l : Limits s) (joins : (k : ℕ) → k < s .edges → Join
     λ c. not-says acyclic-law .1 (λ f. f c),
   )
 
-pub limits-of : {s : Sheet} → Sound s → Limits s
-limits-of S = record { vertices-least = S .limits .vertices-least; vertices-most = S .limits .vertices-most; edges-least = S .limits .edges-least; edges-most = S .limits .edges-most }
-
 pub rotation-of : {s : Sheet} → Sound s → Rotation s
 rotation-of {s} S = rings-rotation s (S .joins) (S .rings)
 

@@ -1,5 +1,5 @@
 -- What a test says, clause by clause, and laws of the tests over the numbers below n. Assumes nothing.
-use mathlib.Core.Path.{_≡_, refl, sym, _∙_, ap}
+use mathlib.Core.Path.{_≡_, refl, ap}
 use mathlib.Core.Logic.{_↔_, _⊎_, inl, inr, by-cases}
 use mathlib.Core.Bool.{Bool, true, false, not, _&&_, _||_, Bool·beq, false≢true, and-eq-true-iff}
 use Prim.Native.Nat.{ℕ, zero, suc, _≤_, _<_}

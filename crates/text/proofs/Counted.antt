@@ -1,11 +1,10 @@
 -- A line by how many numbers the reading call counted. Assumes nothing.
-use Prim.Native.Nat.{ℕ, suc, _+_}
-use mathlib.Core.Path.{_≡_, refl, sym, ap, _∙_}
+use Prim.Native.Nat.{ℕ}
+use mathlib.Core.Path.{_≡_, refl}
 use mathlib.Core.Logic.{_≢_}
-use mathlib.Core.List.{List, [], _∷_}
+use mathlib.Core.List.{[], _∷_}
 use native.Mathlib.Omega.{arith}
-use lib.ListN.{getD, length}
-use Rattle.text.specs.declared.Numbers.{Numbers}
+use lib.ListN.{getD}
 use Rattle.text.specs.declared.Pair.the-variants.{Two, Other}
 use Rattle.text.specs.Reading.{Listed, numbersOf}
 use Rattle.text.specs.Reading.Listed.{listed, unlisted}

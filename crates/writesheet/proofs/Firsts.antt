@@ -9,7 +9,7 @@ use native.Mathlib.Omega.{arith}
 use lib.Dec.{eqb}
 use lib.ListN.{getD, set, length, length-set}
 use lib.Seq.{getD-set-same, getD-set-other}
-use borrow.Author.Tests.{eq-eqb, ne-eqb, eqb-true}
+use borrow.Author.Tests.{eq-eqb, ne-eqb}
 use Rattle.clauses.specs.Darts.{dartOf}
 use Rattle.clauses.proofs.Touching.{touches-tail, touches-head, head-touches}
 use Rattle.counting.specs.Below.{lowestBelow}

@@ -1,6 +1,6 @@
 -- Write sheet: load's layout, each ring from its lowest wire number.
 use Prim.Native.Nat.{ℕ}
-use mathlib.Core.Bool.{Bool, not}
+use mathlib.Core.Bool.{not}
 use mathlib.Core.List.{List, [], _∷_, _++_}
 use lib.Dec.{ltb}
 use lib.ListN.{length, drop}
@@ -9,7 +9,7 @@ use Rattle.counting.specs.Choice.{pick}
 use Rattle.text.specs.Written.{line}
 use Rattle.sheet.specs.declared.Sheet.{Sheet}
 use Rattle.answers.specs.declared.Answer.{Answer}
-use Rattle.answers.specs.declared.Answer.the-variants.{Accepted, NotSound, BufferTooShort}
+use Rattle.answers.specs.declared.Answer.the-variants.{NotSound, BufferTooShort}
 use Rattle.answers.specs.Refusals.{first, _if_, isAccepted}
 use Rattle.sheet.specs.Darts.{tail, head}
 use Rattle.sheet.specs.Check.{sound}

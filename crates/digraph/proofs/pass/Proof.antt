@@ -1,5 +1,5 @@
 -- `pass` meets its contract: its loop's invariant is `Turn`, of every digraph with these lists. Assumes nothing.
-use mathlib.Core.Path.{_≡_, refl, sym, ap, _∙_}
+use mathlib.Core.Path.{refl, sym, ap}
 use Prim.Native.Nat.{_-_, _<_}
 use native.Mathlib.Omega.{arith}
 use lib.ListN.{getD, set}

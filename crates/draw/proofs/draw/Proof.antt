@@ -1,5 +1,5 @@
 -- `draw::draw` meets its contract: a sheet that is not sound is refused, and the drawing of a sound one composed. Assumes nothing.
-use mathlib.Core.Path.{_≡_, sym, _∙_}
+use mathlib.Core.Path.{_≡_}
 use mathlib.Core.Bool.{true}
 use borrow.Author.Tests.{not-true, not-false}
 use Rattle.sheet.specs.Darts.{Sized}

@@ -2,7 +2,6 @@ use mathlib.Core.Path.{ap₂}
 use Prim.Native.Nat.{ℕ}
 use borrow.Author.Needs.{needs}
 use Rattle.edit.specs.declared.Edit.{Edit}
-use Rattle.edit.specs.declared.EditRead.{EditRead}
 use Rattle.edit.specs.Lines.{editAnswer, readEdit}
 use Rattle.edit.proofs.read_edit.Statement.{statement}
 use Rattle.edit.proofs.read_edit.Tie as tie

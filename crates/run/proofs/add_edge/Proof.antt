@@ -3,7 +3,6 @@ use mathlib.Core.Path.{_≡_, refl}
 use lib.ListN.{length}
 use Rattle.clauses.specs.Darts.{dartOf}
 use Rattle.run.proofs.Corners.{inserted-size}
-use Rattle.sheet.specs.Darts.{dartAt}
 use Rattle.edit.specs.Changes.{runEdge}
 use borrow.Author.Needs.{needs}
 use Rattle.run.proofs.add_edge.Statement.{statement}

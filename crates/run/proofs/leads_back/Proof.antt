@@ -3,7 +3,6 @@ use Prim.Native.Nat.{_<_}
 use mathlib.Core.Path.{sym, _∙_, ap}
 use mathlib.Core.Bool.{not}
 use native.Mathlib.Omega.{arith}
-use lib.ListN.{getD}
 use Rattle.digraph.specs.declared.Layering.{Layering}
 use Rattle.run.proofs.Closing.{from-root, not-higher, by-circle}
 use borrow.Author.Needs.{needs}

@@ -1,6 +1,5 @@
 use mathlib.Core.Path.{refl}
 use borrow.Author.Needs.{needs}
-use native.Mathlib.Omega.{arith}
 use Rattle.edit.specs.Changes.{insertDart}
 use Rattle.splice.proofs.insert_dart.Statement.{statement}
 use Rattle.splice.proofs.insert_dart.Tie as tie
