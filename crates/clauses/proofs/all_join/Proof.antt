@@ -1,4 +1,4 @@
--- `sheet::all_join` meets its contract. The edges before k join two vertices. Assumes nothing.
+-- `clauses::all_join` meets its contract. The edges before k join two vertices. Assumes nothing.
 use Prim.Native.Nat.{_≤_, _-_}
 use mathlib.Core.Path.{_≡_, refl, sym, _∙_}
 use mathlib.Core.Bool.{true}

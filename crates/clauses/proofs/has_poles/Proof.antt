@@ -1,4 +1,4 @@
--- `sheet::has_poles` meets its contract. The heads lack 0 alone, and the tails 1 alone. Assumes nothing.
+-- `clauses::has_poles` meets its contract. The heads lack 0 alone, and the tails 1 alone. Assumes nothing.
 use mathlib.Core.Path.{refl, sym, _∙_}
 use borrow.Author.Tests.{not-true, not-false}
 use Rattle.clauses.specs.Contracts.{polesOf}

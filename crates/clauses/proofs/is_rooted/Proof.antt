@@ -1,4 +1,4 @@
--- `sheet::is_rooted` meets its contract. Two tests. Assumes nothing.
+-- `clauses::is_rooted` meets its contract. Two tests. Assumes nothing.
 use mathlib.Core.Path.{refl}
 use borrow.Author.Tests.{eq-eqb, ne-eqb}
 use lib.ListN.{getD}

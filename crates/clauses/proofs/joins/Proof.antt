@@ -1,4 +1,4 @@
--- `sheet::joins` meets its contract. Three tests. Assumes nothing.
+-- `clauses::joins` meets its contract. Three tests. Assumes nothing.
 use mathlib.Core.Path.{refl}
 use native.Mathlib.Omega.{arith}
 use borrow.Author.Tests.{lt-ltb, le-ltb}

@@ -1,4 +1,4 @@
--- `sheet::marked` meets its contract. The marks are those of the first k ends. Assumes nothing.
+-- `clauses::marked` meets its contract. The marks are those of the first k ends. Assumes nothing.
 use Prim.Native.Nat.{_≤_, _-_}
 use mathlib.Core.Path.{_≡_, ap, _∙_}
 use native.Mathlib.Omega.{arith}

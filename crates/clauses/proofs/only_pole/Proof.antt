@@ -1,4 +1,4 @@
--- `sheet::only_pole` meets its contract. The vertices before v pass. Assumes nothing.
+-- `clauses::only_pole` meets its contract. The vertices before v pass. Assumes nothing.
 use Prim.Native.Nat.{_≤_, _-_}
 use mathlib.Core.Path.{_≡_, refl, sym}
 use mathlib.Core.Bool.{true, false}

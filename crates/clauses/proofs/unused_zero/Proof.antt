@@ -1,4 +1,4 @@
--- `sheet::unused_zero` meets its contract. Three tables, one after the other. Assumes nothing.
+-- `clauses::unused_zero` meets its contract. Three tables, one after the other. Assumes nothing.
 use mathlib.Core.Path.{refl, sym}
 use borrow.Author.Tests.{not-true, not-false}
 use Rattle.clauses.specs.Contracts.{unusedOf}

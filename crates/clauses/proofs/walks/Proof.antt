@@ -1,4 +1,4 @@
--- `sheet::walks` meets its contract. The first 2k entries are filled. Assumes nothing.
+-- `clauses::walks` meets its contract. The first 2k entries are filled. Assumes nothing.
 use Prim.Native.Nat.{_≤_, _-_, _*_}
 use mathlib.Core.Path.{_≡_, ap, _∙_}
 use native.Mathlib.Omega.{arith}

@@ -1,4 +1,4 @@
--- `sheet::within_limits` meets its contract. Four tests. Assumes nothing.
+-- `clauses::within_limits` meets its contract. Four tests. Assumes nothing.
 use mathlib.Core.Path.{refl}
 use borrow.Author.Tests.{le-leb, lt-leb}
 use Rattle.clauses.specs.Contracts.{limitsOf}

@@ -1,4 +1,4 @@
--- `sheet::zero_from` meets its contract. The entries before k pass. Assumes nothing.
+-- `clauses::zero_from` meets its contract. The entries before k pass. Assumes nothing.
 use Prim.Native.Nat.{_≤_, _-_}
 use mathlib.Core.Path.{_≡_, refl, sym}
 use mathlib.Core.Bool.{true}
