@@ -40,7 +40,8 @@ typedef struct {
 #define WALNUT_READ(s) (s)->bars, (s)->wires, (s)->tails, (s)->heads, (s)->nexts
 #define WALNUT_CHANGE(s) &(s)->bars, &(s)->wires, (s)->tails, (s)->heads, (s)->nexts
 
-/* Load: reads a sheet from the front of the text into the sheet's parts; `taken` gets the number of bytes read.
+/* Load: reads a sheet from the front of the text into the sheet's parts; `taken` gets the number of bytes read. A line, an
+ * edit line too, may end in byte 10 alone or in 13 followed by 10.
  * Refused (1 to 8) the parts keep what they held and `taken` gets 0. */
 uint16_t walnut_load(const uint8_t *text, size_t length, size_t *bars, size_t *wires, uint16_t tails[WALNUT_WIRES],
                      uint16_t heads[WALNUT_WIRES], uint16_t nexts[WALNUT_ENDS], size_t *taken);

@@ -6,7 +6,7 @@
 
 mod plain;
 
-use reference::generate::{digraph, edit_line, edits, grown, likely_edit, permutation, renumbered, sheet_text, sheets, Random};
+use reference::generate::{digraph, edit_line, edits, grown, likely_edit, mixed_ends, permutation, renumbered, sheet_text, sheets, Random};
 use reference::{Edit, Sheet};
 use std::hint::black_box;
 use std::time::Instant;
@@ -79,16 +79,20 @@ fn compare_trace(what: &str, inputs: &[[u16; 512]]) {
     );
 }
 
-fn compare_sheets(what: &str, random: &mut Random, sheets: &[Sheet]) {
-    let texts: Vec<Vec<u8>> = sheets.iter().map(|sheet| sheet_text(random, sheet)).collect();
+fn compare_loads(what: &str, texts: &[Vec<u8>]) {
     let fresh = Sheet::fresh();
     compare(
         &format!("load, {what}"),
-        &texts,
+        texts,
         |text| proved::load(text, &fresh),
         |text| plain::load(text, &fresh),
         |text| reference::load(text, &fresh),
     );
+}
+
+fn compare_sheets(what: &str, random: &mut Random, sheets: &[Sheet]) {
+    let texts: Vec<Vec<u8>> = sheets.iter().map(|sheet| sheet_text(random, sheet)).collect();
+    compare_loads(what, &texts);
     compare(&format!("is_sound, {what}"), sheets, proved::is_sound, plain::is_sound, reference::is_sound);
     let mut buffers = [0; 3].map(|_| vec![0; 16_384]);
     let [a, b, c] = &mut buffers;
@@ -158,6 +162,11 @@ fn main() {
     let full = several(|| grown(random, 128, 256));
     let room = several(|| grown(random, 127, 255));
     compare_sheets("128 bars and 256 wires", random, &full);
+    let mut mixed = |sheet: &Sheet| {
+        let text = sheet_text(random, sheet);
+        mixed_ends(random, &text)
+    };
+    compare_loads("128 bars and 256 wires, both line ends", &full.iter().map(&mut mixed).collect::<Vec<_>>());
     compare_edits("put in", &room, |_| Edit::In(random.between(1, 254)));
     compare_edits("run", &room, |sheet| edits::run_in_one_face(random, sheet));
     compare_edits("take out a wire", &full, |_| Edit::Out(random.between(1, 255)));

@@ -212,11 +212,18 @@ impl Reader<'_> {
         let mut numbers = [0; COUNT];
         for (i, number) in numbers.iter_mut().enumerate() {
             *number = self.number()?;
-            if self.byte()? != if i + 1 == COUNT { b'\n' } else { b',' } {
+            if i + 1 < COUNT && self.byte()? != b',' {
                 return None;
             }
         }
+        let last = self.byte()?;
+        self.end(last)?;
         Some(numbers)
+    }
+
+    /// The rest of a line end that begins with the given byte: 10 alone, or 13 followed by 10.
+    fn end(&mut self, first: u8) -> Option<()> {
+        (first == b'\n' || (first == b'\r' && self.byte()? == b'\n')).then_some(())
     }
 
     /// An `around=` line of vertex v: whether it names the vertex's edges, each once.
@@ -240,8 +247,7 @@ impl Reader<'_> {
             }
             match self.byte()? {
                 b',' => {}
-                b'\n' => break,
-                _ => return None,
+                byte => break self.end(byte)?,
             }
         }
         s.nexts[last] = first as u16;
@@ -599,7 +605,7 @@ pub fn write_drawing(s: &Sheet, buffer: &mut [u8]) -> (u16, usize) {
     }
 }
 
-/// The edit that a line reads as, its byte 10 taken off.
+/// The edit that a line reads as, its end taken off.
 fn edit_of(line: &[u8]) -> Option<Edit> {
     let (key, numbers) = line.split_at(line.iter().position(|&byte| byte == b'=')? + 1);
     let mut reader = Reader { text: numbers, at: 0 };
@@ -646,7 +652,7 @@ pub fn plate(input: &[u8], buffer: &mut [u8]) -> (u16, usize) {
     };
     let mut length = 0;
     for line in input[taken..].split_inclusive(|&byte| byte == b'\n') {
-        let line = line.strip_suffix(b"\n").unwrap_or(line);
+        let line = line.strip_suffix(b"\r\n").or(line.strip_suffix(b"\n")).unwrap_or(line);
         if let Err(refusal) = edit_of(line).ok_or(1).and_then(|edit| change(&mut s, edit)) {
             length = refuse(buffer, length, refusal);
         }

@@ -15,8 +15,7 @@ pub fn load(text: &[u8], present: &Sheet) -> (Answer, Sheet, usize) {
     }
 }
 
-/// "Lines end in byte 10, in this order: `bars=n`; `wires=m`; m lines `wire=tail,head`; n lines
-/// `around=`". "Line by line; on a line, shape first".
+/// "in this order: `bars=n`; `wires=m`; m lines `wire=tail,head`; n lines `around=`". "Line by line; on a line, shape first".
 fn read_sheet(text: &[u8]) -> Result<(Sheet, usize), u8> {
     let mut rest = text;
     let vertices = read_count(take_line(&mut rest)?, b"bars=", 2..=MAX_VERTICES)?;
@@ -37,7 +36,7 @@ fn read_sheet(text: &[u8]) -> Result<(Sheet, usize), u8> {
     Ok((sheet, text.len() - rest.len()))
 }
 
-/// "1 text or line not of the layout": a line that isn't there, or without its byte 10.
+/// "1 text or line not of the layout": a line that isn't there, or without its end.
 fn take_line<'a>(rest: &mut &'a [u8]) -> Result<&'a [u8], u8> {
     let (line, after) = split_line(rest).ok_or(1)?;
     *rest = after;

@@ -24,10 +24,12 @@ pub fn numbers<const COUNT: usize>(line: &[u8], key: &[u8]) -> Option<[usize; CO
     fields.next().is_none().then_some(values)
 }
 
-/// "Lines end in byte 10": the first line without that byte, and what follows it.
+/// "A line may now end in 10 alone or in 13 followed by 10": the first line without its end, and what
+/// follows it.
 pub fn split_line(text: &[u8]) -> Option<(&[u8], &[u8])> {
     let end = text.iter().position(|&byte| byte == b'\n')?;
-    Some((&text[..end], &text[end + 1..]))
+    let line = &text[..end];
+    Some((line.strip_suffix(b"\r").unwrap_or(line), &text[end + 1..]))
 }
 
 #[cfg(test)]
@@ -54,6 +56,11 @@ mod tests {
         assert_eq!(split_line(b"a\nb\n"), Some((&b"a"[..], &b"b\n"[..])));
         assert_eq!(split_line(b"\n"), Some((&b""[..], &b""[..])));
         assert_eq!(split_line(b"a"), None);
+        assert_eq!(split_line(b"a\r\nb\n"), Some((&b"a"[..], &b"b\n"[..])));
+        assert_eq!(split_line(b"\r\n"), Some((&b""[..], &b""[..])));
+        assert_eq!(split_line(b"a\r\r\nb"), Some((&b"a\r"[..], &b"b"[..])));
+        assert_eq!(split_line(b"a\rb\n\rc"), Some((&b"a\rb"[..], &b"\rc"[..])));
+        assert_eq!(split_line(b"a\r"), None);
         assert_eq!(numbers(b"k=1,20", b"k="), Some([1, 20]));
         assert_eq!(numbers::<2>(b"k=1", b"k="), None);
         assert_eq!(numbers::<2>(b"k=1,2,3", b"k="), None);

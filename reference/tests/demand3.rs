@@ -5,7 +5,7 @@ mod common;
 
 use common::{geometry, slow};
 use reference::generate::{
-    any_edit, damaged, edits, extreme_sheets, grown, likely_edit, sheet_text,
+    any_edit, damaged, edits, extreme_sheets, grown, likely_edit, mixed_ends, sheet_text,
 };
 use reference::generate::{sheets::random_counts, Random};
 use reference::{apply, draw, load, Answer, Drawing, Sheet};
@@ -27,6 +27,7 @@ fn random_call(random: &mut Random, sheet: &Sheet) -> (Answer, Sheet) {
             let (vertices, edges) = (random.between(2, 9), random.between(9, 20));
             let other = grown(random, vertices, edges);
             let mut text = sheet_text(random, &other);
+            text = mixed_ends(random, &text);
             if random.one_in(2) {
                 text = damaged(random, &text);
             }

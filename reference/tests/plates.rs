@@ -102,7 +102,7 @@ fn examples_folder() {
     let mut names: Vec<_> =
         folder.read_dir().expect("a folder").map(|entry| entry.expect("a file").path()).collect();
     names.retain(|path| path.extension().is_some_and(|extension| extension == "sheet"));
-    assert_eq!(names.len(), 13);
+    assert_eq!(names.len(), 14);
     for path in names {
         let input = std::fs::read(&path).expect("the input");
         let expected = std::fs::read(path.with_extension("out")).expect("the output beside it");

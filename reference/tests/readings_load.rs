@@ -34,7 +34,7 @@ fn a2_a_missing_line() {
 }
 
 #[test]
-fn a3_a_line_without_its_byte_10() {
+fn a3_a_line_without_its_end() {
     assert_eq!(load_answer(b"bars=129"), Err(1));
     assert_eq!(after_counts("wire=9,9"), Err(1));
     assert_eq!(after_wires("around=0,0"), Err(1));
@@ -56,7 +56,11 @@ fn a4_the_whole_line_is_shape() {
         "bars=-2",
         "Bars=2",
         "BARS=2",
-        "bars=2\r",
+        "bars=2\r\r",
+        "\rbars=2",
+        "bars\r=2",
+        "bars=\r2",
+        "bars=2\rwires=2",
         "bars=2,",
         "bars=2,2",
         "bars=",

@@ -74,6 +74,9 @@ static void check_load(void) {
     s.nexts[511] = 1;
     check(!walnut_is_sound(WALNUT_READ(&s)), "not with an unused entry of 1");
     check(load(&s, p5, &taken) == 0 && taken == 55 && same_sheet(&s, &fresh), "P5 begins with the fresh sheet");
+    check(load(&s, "bars=2\r\nwires=2\nwire=0,1\r\nwire=0,1\naround=0,1\naround=0,1\r\nin=1\r\n", &taken) == 0 && taken == 58 && same_sheet(&s, &fresh),
+          "lines may end in 13 10, and the 13s count");
+    check(load(&s, "bars=2\r\r\nwires=2\n", &taken) == 1 && taken == 0 && same_sheet(&s, &fresh), "13 13 10 is refused 1");
 }
 
 static void check_writers(void) {

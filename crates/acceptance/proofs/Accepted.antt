@@ -10,10 +10,14 @@ use native.Mathlib.Omega.{arith}
 use lib.ListN.{getD, length, take, drop, length-append, List·getD-append, take-append-drop}
 use lib.Seq.{getD-at, getD-take, ext-getD, length-take-le}
 use Rattle.counting.specs.Below.{joinBelow}
-use Rattle.text.specs.Written.{line}
+use Rattle.text.specs.Written.{separated, line}
 use Rattle.text.specs.Keys.{barsKey, wiresKey, wireKey, aroundKey}
 use Rattle.layout.specs.Layout.{Stands, LineAt}
+use Rattle.layout.specs.Mixed.{MixedEnds}
+use Rattle.layout.specs.Mixed.MixedEnds.{over}
 use Rattle.layout.proofs.Standing.{stands-nil, stands-append}
+use Rattle.layout.proofs.Mixed.{mixed-append, line-mixed}
+use Rattle.roundtrip.proofs.Standing.{joined-agree}
 use Rattle.sheet.specs.declared.Sheet.{Sheet}
 use Rattle.acceptance.specs.Loading.{Result, refusal, ItsWires, Describes, AroundLines, WireLines, WiresLine, BarsLine}
 use Rattle.acceptance.specs.Loading.AroundLines.{no-around, bad-around, around, refused-last, accepted-last}
@@ -22,11 +26,6 @@ use Rattle.acceptance.specs.Loading.WiresLine.{no-wires, bad-wires, wire
 use Rattle.acceptance.specs.Loading.BarsLine.{no-bars, bad-bars, bars}
 
 -- ---- texts one after the other
-
-pub joined-agree : (f g : ℕ → List ℕ) (n : ℕ) → ((k : ℕ) → k < n → f k ≡ g k) → joinBelow f n ≡ joinBelow g n
-unfolding joinBelow
-joined-agree f g zero h = refl
-joined-agree f g (suc n) h = rw (joined-agree f g n (λ k l. h k (omega arith)), h n (omega arith)) refl
 
 -- one text more
 joined-more : (f g : ℕ → List ℕ) (k : ℕ) (ds : List ℕ) → ((i : ℕ) → i < k → f i ≡ g i) → g k ≡ ds → joinBelow f k ++ ds ≡ joinBelow g (k + 1)
@@ -53,19 +52,26 @@ rings-more rings ws = joined-more (ringLine rings) (ringLine (rings ++ ws ∷ []
     (λ i h. rw (List·getD-append rings (ws ∷ []) [] i h) refl)
     (rw (getD-at rings ws [] [] (length rings) refl) refl)
 
--- ---- what stands at the front of a text up to a place
+-- ---- what stands at the front of a text up to a place, with line ends of both kinds
 
-record Front (text ds : List ℕ) (at : ℕ) : Type 0 where
-  holds : Stands text 0 ds
-  place : at ≡ length ds
+pub record Front (text ds : List ℕ) (at : ℕ) : Type 0 where
+  pub bytes : List ℕ
+  pub mixed : MixedEnds ds bytes
+  pub holds : Stands text 0 bytes
+  pub place : at ≡ length bytes
 
 front-none : (text : List ℕ) → Front text [] 0
-front-none text = record { holds = stands-nil text 0 (omega arith); place = refl }
+front-none text = record { bytes = []; mixed = over; holds = stands-nil text 0 (omega arith); place = refl }
 
 front-more : {text ds vs : List ℕ} {at after : ℕ} (key : List ℕ) → Front text ds at → LineAt key text at vs after → Front text (ds ++ line key vs) after
 front-more {text} {ds} {vs} key F L =
-    let there : Stands text (0 + length ds) (line key vs) = subst (λ i. Stands text i (line key vs)) (F .place ∙ sym (zero-add (length ds))) (L .holds) in
-    record { holds = stands-append ds (line key vs) (F .holds) there; place = omega (arith, L .place, F .place, length-append ds (line key vs)) }
+    let there : Stands text (0 + length (F .bytes)) (key ++ separated vs ++ L .end) = subst (λ i. Stands text i (key ++ separated vs ++ L .end)) (F .place ∙ sym (zero-add (length (F .bytes)))) (L .same .holds) in
+    record {
+      bytes = F .bytes ++ (key ++ separated vs ++ L .end);
+      mixed = mixed-append (F .mixed) (line-mixed key vs (L .end) (L .ends));
+      holds = stands-append (F .bytes) (key ++ separated vs ++ L .end) (F .holds) there;
+      place = omega (arith, L .same .place, F .place, length-append (F .bytes) (key ++ separated vs ++ L .end));
+    }
 
 pub front-splits : (text ds : List ℕ) → Stands text 0 ds → text ≡ ds ++ drop (length ds) text
 front-splits text ds H =
@@ -89,7 +95,8 @@ module _ (text : List ℕ) (present : Sheet) (r : Result) (zero-number : r .numb
     pub full : length rings ≡ n
     pub each : Rings tails heads rings
     pub described : Describes n tails heads rings (r .sheet)
-    pub lines : Stands text 0 (front ++ joinBelow (ringLine rings) n)
+    pub taken : ℕ
+    pub lines : Front text (front ++ joinBelow (ringLine rings) n) taken
 
   ring-more : {tails heads : List ℕ} (rings : List (List ℕ)) (ws : List ℕ) → Rings tails heads rings → ItsWires tails heads (length rings) ws → 0 < length ws → Rings tails heads (rings ++ ws ∷ [])
   ring-more {tails} {heads} rings ws R W l = record { its = λ v h. both v h .0; some = λ v h. both v h .1 }
@@ -107,14 +114,15 @@ module _ (text : List ℕ) (present : Sheet) (r : Result) (zero-number : r .numb
   around-lines front (around {rings} {at} {ws} {after} h L W A) R F =
       let on : front ++ joinBelow (ringLine rings) (length rings) ++ line aroundKey ws ≡ front ++ joinBelow (ringLine (rings ++ ws ∷ [])) (length (rings ++ ws ∷ [])) =
       append-assoc front (joinBelow (ringLine rings) (length rings)) (line aroundKey ws) ∙ ap (λ l. front ++ l) (rings-more rings ws ∙ ap (joinBelow (ringLine (rings ++ ws ∷ []))) (sym (length-append rings (ws ∷ [])))) in
-      around-lines front A (ring-more rings ws R W (L .numerals .some)) (subst (λ l. Front text l after) on (front-more aroundKey F L))
+      around-lines front A (ring-more rings ws R W (L .same .numerals .some)) (subst (λ l. Front text l after) on (front-more aroundKey F L))
   around-lines front (refused-last z D f n e) R F = never n e
   around-lines {n} {tails} {heads} front (accepted-last {rings} {at} {s} z D f e) R F = record {
     rings = rings;
     full = z;
     each = R;
     described = subst (Describes n tails heads rings) (sym (ap (λ q. q .sheet) e)) D;
-    lines = subst (λ k. Stands text 0 (front ++ joinBelow (ringLine rings) k)) z (F .holds);
+    taken = at;
+    lines = subst (λ k. Front text (front ++ joinBelow (ringLine rings) k) at) z F;
   }
 
   pub record AllWires (front : List ℕ) (n m : ℕ) : Type 0 where

@@ -38,7 +38,7 @@ use Rattle.acceptance.specs.Loading.WireLines.{no-wire, bad-wire, wire, 
 use Rattle.acceptance.specs.Loading.WiresLine.{no-wires, bad-wires, wires}
 use Rattle.acceptance.specs.Loading.BarsLine.{no-bars, bad-bars, bars}
 use Rattle.acceptance.specs.Laws.{Load-Answered}
-use Rattle.layout.proofs.Shapes.{one-shaped, two-shaped, some-shaped}
+use Rattle.layout.proofs.Shapes.{line-reads, one-shaped, two-shaped, some-shaped}
 use Rattle.acceptance.proofs.Said.{Said, said-more, none-said, wire-bad, wire-good, around-its, its-around, laid-after}
 
 -- ---- after the last line
@@ -95,7 +95,7 @@ module _ (text : List ℕ) (present : Sheet) where
     rings-answered zero rings nexts v at z e R =
         let full : length rings ≡ s .vertices = omega arith in
         last-answered (s .vertices) tails heads rings (withNexts s nexts) at full (described s E tails heads S rings nexts full R) (whole-lined s E rings nexts full R)
-    rings-answered (suc r) rings nexts v at z e R = some-shaped aroundKey text at Answered _ _ (λ f. no-around (omega arith) f refl) (λ ws after L.
+    rings-answered (suc r) rings nexts v at z e R = some-shaped (line-reads aroundKey text at) Answered _ _ (λ f. no-around (omega arith) f refl) (λ ws after L.
         pick-each Answered (isRotation s v ws) _ _
         (λ t. let A = around-law s v ws .0 t in
         around (omega arith) L (rw z (around-its s tails heads S A))
@@ -112,7 +112,7 @@ module _ (text : List ℕ) (present : Sheet) where
   edges-answered zero s k at tails heads e E S =
       let q : k ≡ s .edges = omega arith in
       last-wire (S .tail-count ∙ q) (rings-answered s (subst (Edged s) q E) tails heads (subst (λ i. Said s i tails heads) q S) (s .vertices) [] (s .nexts) 0 at refl (omega arith) (none-ringed s k E))
-  edges-answered (suc r) s k at tails heads e E S = two-shaped wireKey text at Answered _ _ (λ f. no-wire short f refl) (λ a b after L.
+  edges-answered (suc r) s k at tails heads e E S = two-shaped (line-reads wireKey text at) Answered _ _ (λ f. no-wire short f refl) (λ a b after L.
       pick-each Answered (ltb a (s .vertices) && ltb b (s .vertices) && not (eqb a b)) _ _
       (λ t. let ((l, m), n) = edge-says s a b .0 t in
       wire short L (wire-good (s .vertices) a b ((l, m), n))
@@ -143,7 +143,7 @@ module _ (text : List ℕ) (present : Sheet) where
   wires-answered : (n at : ℕ) → (2 ≤ n) × (n ≤ 128)
       → WiresLine text present (result present (withCount (lineAt wiresKey text at) 256 (λ m after. edgeLines m text (emptySheet n m) 0 after))) n at
   unfolding withCount result loaded refusalNumber emptySheet
-  wires-answered n at (a, b) = one-shaped wiresKey text at Answered _ _ (λ f. no-wires f refl) (λ m after L.
+  wires-answered n at (a, b) = one-shaped (line-reads wiresKey text at) Answered _ _ (λ f. no-wires f refl) (λ m after L.
       pick-each Answered (leb 2 m && leb m 256) _ _
       (λ t. let (c, d) = within 256 m t in
       wires L (inside 256 m (c, d)) (edges-answered text present m (emptySheet n m) 0 after [] [] (omega arith) (empty-read n m a b c d) (none-said (emptySheet n m))))
@@ -154,7 +154,7 @@ module _ (text : List ℕ) (present : Sheet) where
 
   bars-answered : BarsLine text present (result present (parse text)) 0
   unfolding parse withCount result loaded refusalNumber
-  bars-answered = one-shaped barsKey text 0 Answered _ _ (λ f. no-bars f refl) (λ n after L.
+  bars-answered = one-shaped (line-reads barsKey text 0) Answered _ _ (λ f. no-bars f refl) (λ n after L.
       pick-each Answered (leb 2 n && leb n 128) _ _
       (λ t. bars L (inside 128 n (within 128 n t)) (wires-answered n after (within 128 n t)))
       (λ t. bad-bars L (not-within 128 n t) refl))

@@ -1,4 +1,4 @@
--- Load accepts exactly the texts that begin with a sound sheet, each ring turned anyhow. Assumes nothing.
+-- Load accepts exactly the texts that begin with a sound sheet, each ring turned anyhow, with line ends of both kinds. Assumes nothing.
 use mathlib.Core.Path.{_≡_, refl, sym, _∙_, ap, subst}
 use mathlib.Core.Logic.{by-cases}
 use mathlib.Core.List.{List, [], _∷_, _++_}
@@ -11,7 +11,7 @@ use Rattle.clauses.specs.Darts.{End}
 use Rattle.counting.specs.Below.{joinBelow}
 use Rattle.text.specs.Written.{line}
 use Rattle.text.specs.Keys.{barsKey, wiresKey, wireKey, aroundKey}
-use Rattle.layout.specs.Layout.{Stands}
+use Rattle.layout.specs.Mixed.{MixedEnds}
 use Rattle.answers.specs.declared.Answer.the-variants.{Accepted}
 use Rattle.answers.specs.Answers.{refusalNumber}
 use Rattle.sheet.specs.declared.Sheet.{Sheet}
@@ -23,17 +23,18 @@ use Rattle.roundtrip.proofs.Around.{Around}
 use Rattle.roundtrip.proofs.Laid.{Laid, cyclic, cyclic-entry}
 use Rattle.roundtrip.proofs.Loaded.{loaded-sound}
 use Rattle.roundtrip.proofs.RoundTrip.{lines-back}
+use Rattle.roundtrip.proofs.Standing.{joined-agree}
 use Rattle.acceptance.specs.Loading.{Describes, After, ItsWires}
 use Rattle.acceptance.specs.Loading.After.{on-line, around-again}
 use Rattle.acceptance.specs.Laws.{turned, turnedText, Begins, Load-Accepts, Load-Gives}
 use Rattle.acceptance.proofs.Said.{Said, its-around, end-there}
 use Rattle.acceptance.proofs.Turned.{turned-rotates, laid-turned}
 use Rattle.acceptance.proofs.Answered.{result, load-answered}
-use Rattle.acceptance.proofs.Accepted.{wireLine, ringLine, joined-agree, front-splits, all-lines}
+use Rattle.acceptance.proofs.Accepted.{wireLine, ringLine, Front, front-splits, all-lines}
 
 pub load-gives : Load-Gives
 unfolding turnedText
-load-gives s z S turn rest present = lines-back s z S (λ v. turned (turn v) (rotation s v)) (λ v h. turned-rotates s S v h (turn v)) rest present
+load-gives s z S turn lines m rest present = lines-back s z S (λ v. turned (turn v) (rotation s v)) (λ v h. turned-rotates s S v h (turn v)) lines m rest present
 
 -- a function from what there is for each number below n
 chosen : (P : ℕ → ℕ → Type 0) (n : ℕ) → ((v : ℕ) → v < n → (t : ℕ) × P v t) → (f : ℕ → ℕ) × ((v : ℕ) → v < n → P v (f v))
@@ -95,15 +96,17 @@ module _ (n : ℕ) (tails heads : List ℕ) (rings : List (List ℕ)) (s : Sheet
   turns : (turn : ℕ → ℕ) × ((v : ℕ) → v < n → getD rings v [] ≡ turned (turn v) (rotation s v))
   turns = chosen (λ v t. getD rings v [] ≡ turned t (rotation s v)) n (λ v h. laid-turned s S v (omega (arith, D .vertices)) (getD rings v []) (some v h) (laid v h))
 
-  described-begins : (text : List ℕ) (m : ℕ) → length tails ≡ m
-      → Stands text 0 (line barsKey (n ∷ []) ++ line wiresKey (m ∷ []) ++ joinBelow (wireLine tails heads) m ++ joinBelow (ringLine rings) n) → Begins text
-  described-begins text m e H = let (turn, f) = turns in record {
+  described-begins : (text : List ℕ) (m at : ℕ) → length tails ≡ m
+      → Front text (line barsKey (n ∷ []) ++ line wiresKey (m ∷ []) ++ joinBelow (wireLine tails heads) m ++ joinBelow (ringLine rings) n) at → Begins text
+  described-begins text m at e F = let (turn, f) = turns in record {
     sheet = s;
     sized = D .sized;
     sound = S;
     turn = turn;
-    rest = drop (length (turnedText s turn)) text;
-    whole = front-splits text (turnedText s turn) (subst (Stands text 0) (lines-turned turn f m e) H);
+    lines = F .bytes;
+    mixed = subst (λ l. MixedEnds l (F .bytes)) (lines-turned turn f m e) (F .mixed);
+    rest = drop (length (F .bytes)) text;
+    whole = front-splits text (F .bytes) (F .holds);
   }
 
 load-begins : (text : List ℕ) (present : Sheet) → load text present .answer ≡ Accepted → Begins text
@@ -114,10 +117,10 @@ load-begins text present e =
     let a = w .around-each in
     let (z, S) = loaded-sound text present e in
     described-begins (all .n) (w .tails) (w .heads) (a .rings) (load text present .sheet) S (a .described) (w .same)
-    (λ v h. a .each .its v (omega (arith, a .full))) (λ v h. a .each .some v (omega (arith, a .full))) text (all .m) (w .count) (a .lines)
+    (λ v h. a .each .its v (omega (arith, a .full))) (λ v h. a .each .some v (omega (arith, a .full))) text (all .m) (a .taken) (w .count) (a .lines)
 
 pub load-accepts : Load-Accepts
 load-accepts text present = (
   load-begins text present,
-  λ B. ap (λ l. load l present .answer) (B .whole) ∙ ap (λ o. o .answer) (load-gives (B .sheet) (B .sized) (B .sound) (B .turn) (B .rest) present),
+  λ B. ap (λ l. load l present .answer) (B .whole) ∙ ap (λ o. o .answer) (load-gives (B .sheet) (B .sized) (B .sound) (B .turn) (B .lines) (B .mixed) (B .rest) present),
 )

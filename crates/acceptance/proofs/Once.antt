@@ -27,7 +27,7 @@ use Rattle.acceptance.specs.Loading.WireLines.{no-wire, bad-wire, wire, 
 use Rattle.acceptance.specs.Loading.WiresLine.{no-wires, bad-wires, wires}
 use Rattle.acceptance.specs.Loading.BarsLine.{no-bars, bad-bars, bars}
 use Rattle.acceptance.specs.Laws.{Answered-Once}
-use Rattle.layout.proofs.Shapes.{one-none, one-read, two-none, two-read, some-none, some-read}
+use Rattle.layout.proofs.Shapes.{line-reads, one-none, one-read, two-none, two-read, some-none, some-read}
 use Rattle.acceptance.proofs.Said.{Said, none-said, said-more, wire-bad, wire-good, around-its, its-around}
 use Rattle.acceptance.proofs.Answered.{result, judged-first, described, within, not-within, inside}
 use Rattle.acceptance.proofs.Described.{described-once}
@@ -69,11 +69,11 @@ module _ (text : List ℕ) (present : Sheet) (r : Result) where
     rings-once zero rings nexts v at z q R (around h L W A) = absurd (omega arith)
     rings-once zero rings nexts v at z q R (refused-last {number = number} {s = s′} h D f n e) = refused-once rings nexts h R at s′ number D f n e
     rings-once zero rings nexts v at z q R (accepted-last {s = s′} h D f e) = accepted-once rings nexts h R at s′ D f e
-    rings-once (suc k) rings nexts v at z q R (no-around h f e) = some-none aroundKey text at Is _ _ f e
-    rings-once (suc k) rings nexts v at z q R (bad-around {ws = ws} h L f e) = some-read aroundKey text at Is _ _ L (pick-each Is (isRotation s v ws) _ _
+    rings-once (suc k) rings nexts v at z q R (no-around h f e) = some-none (line-reads aroundKey text at) Is _ _ f e
+    rings-once (suc k) rings nexts v at z q R (bad-around {ws = ws} h L f e) = some-read (line-reads aroundKey text at) Is _ _ L (pick-each Is (isRotation s v ws) _ _
         (λ t. absurd (f (rw z (around-its s tails heads S (around-law s v ws .0 t)))))
         (λ t. e))
-    rings-once (suc k) rings nexts v at z q R (around {ws = ws} {after = after} h L W A) = some-read aroundKey text at Is _ _ L (pick-each Is (isRotation s v ws) _ _
+    rings-once (suc k) rings nexts v at z q R (around {ws = ws} {after = after} h L W A) = some-read (line-reads aroundKey text at) Is _ _ L (pick-each Is (isRotation s v ws) _ _
         (λ t. rw (link-anew s v (getD ws 0 0) nexts ws nexts)
         (rings-once k (rings ++ ws ∷ []) (linkRing s v ws nexts) (v + 1) after (omega (arith, length-append rings (ws ∷ []))) (omega arith) (ring-read s E rings v ws nexts z R (around-law s v ws .0 t)) A))
         (λ t. absurd (false≢true (sym t ∙ around-law s v ws .1 (its-around s tails heads S (rw z at W))))))
@@ -89,11 +89,11 @@ module _ (text : List ℕ) (present : Sheet) (r : Result) where
   edges-once zero s k at tails heads q E S (last-wire h A) =
       let p : k ≡ s .edges = omega arith in
       rings-once s (subst (Edged s) p E) tails heads (subst (λ i. Said s i tails heads) p S) (s .vertices) [] (s .nexts) 0 at refl (omega arith) (none-ringed s k E) A
-  edges-once (suc i) s k at tails heads q E S (no-wire h f e) = two-none wireKey text at Is _ _ f e
-  edges-once (suc i) s k at tails heads q E S (bad-wire {a = a} {b} h L f e) = two-read wireKey text at Is _ _ L (pick-each Is (ltb a (s .vertices) && ltb b (s .vertices) && not (eqb a b)) _ _
+  edges-once (suc i) s k at tails heads q E S (no-wire h f e) = two-none (line-reads wireKey text at) Is _ _ f e
+  edges-once (suc i) s k at tails heads q E S (bad-wire {a = a} {b} h L f e) = two-read (line-reads wireKey text at) Is _ _ L (pick-each Is (ltb a (s .vertices) && ltb b (s .vertices) && not (eqb a b)) _ _
       (λ t. absurd (wire-good (s .vertices) a b (edge-says s a b .0 t) f))
       (λ t. e))
-  edges-once (suc i) s k at tails heads q E S (wire {a = a} {b} {after} h L f A) = two-read wireKey text at Is _ _ L (pick-each Is (ltb a (s .vertices) && ltb b (s .vertices) && not (eqb a b)) _ _
+  edges-once (suc i) s k at tails heads q E S (wire {a = a} {b} {after} h L f A) = two-read (line-reads wireKey text at) Is _ _ L (pick-each Is (ltb a (s .vertices) && ltb b (s .vertices) && not (eqb a b)) _ _
       (λ t. let ((l, m), n) = edge-says s a b .0 t in
       edges-once i (withEdge s k a b) (k + 1) after (tails ++ a ∷ []) (heads ++ b ∷ []) (omega arith) (edge-read s k a b E (omega arith) l m n)
       (said-more s k a b tails heads (omega (arith, E .sized .tails, E .limits .edges-most)) (omega (arith, E .sized .heads, E .limits .edges-most)) S) A)
@@ -103,17 +103,17 @@ module _ (text : List ℕ) (present : Sheet) (r : Result) where
   wires-once : (n at : ℕ) → (2 ≤ n) × (n ≤ 128) → WiresLine text present r n at
       → Is (withCount (lineAt wiresKey text at) 256 (λ m after. edgeLines m text (emptySheet n m) 0 after))
   unfolding withCount result loaded refusalNumber emptySheet
-  wires-once n at w (no-wires f e) = one-none wiresKey text at Is _ _ f e
-  wires-once n at w (bad-wires {m} L o e) = one-read wiresKey text at Is _ _ L (pick-each Is (leb 2 m && leb m 256) _ _ (λ t. absurd (inside 256 m (within 256 m t) o)) (λ t. e))
-  wires-once n at (a, b) (wires {m} {after} L o A) = one-read wiresKey text at Is _ _ L (pick-each Is (leb 2 m && leb m 256) _ _
+  wires-once n at w (no-wires f e) = one-none (line-reads wiresKey text at) Is _ _ f e
+  wires-once n at w (bad-wires {m} L o e) = one-read (line-reads wiresKey text at) Is _ _ L (pick-each Is (leb 2 m && leb m 256) _ _ (λ t. absurd (inside 256 m (within 256 m t) o)) (λ t. e))
+  wires-once n at (a, b) (wires {m} {after} L o A) = one-read (line-reads wiresKey text at) Is _ _ L (pick-each Is (leb 2 m && leb m 256) _ _
       (λ t. let (c, d) = within 256 m t in edges-once m (emptySheet n m) 0 after [] [] (omega arith) (empty-read n m a b c d) (none-said (emptySheet n m)) A)
       (λ t. absurd (o (not-within 256 m t))))
 
   bars-once : BarsLine text present r 0 → Is (parse text)
   unfolding parse withCount result loaded refusalNumber
-  bars-once (no-bars f e) = one-none barsKey text 0 Is _ _ f e
-  bars-once (bad-bars {n} L o e) = one-read barsKey text 0 Is _ _ L (pick-each Is (leb 2 n && leb n 128) _ _ (λ t. absurd (inside 128 n (within 128 n t) o)) (λ t. e))
-  bars-once (bars {n} {after} L o W) = one-read barsKey text 0 Is _ _ L (pick-each Is (leb 2 n && leb n 128) _ _ (λ t. wires-once n after (within 128 n t) W) (λ t. absurd (o (not-within 128 n t))))
+  bars-once (no-bars f e) = one-none (line-reads barsKey text 0) Is _ _ f e
+  bars-once (bad-bars {n} L o e) = one-read (line-reads barsKey text 0) Is _ _ L (pick-each Is (leb 2 n && leb n 128) _ _ (λ t. absurd (inside 128 n (within 128 n t) o)) (λ t. e))
+  bars-once (bars {n} {after} L o W) = one-read (line-reads barsKey text 0) Is _ _ L (pick-each Is (leb 2 n && leb n 128) _ _ (λ t. wires-once n after (within 128 n t) W) (λ t. absurd (o (not-within 128 n t))))
 
 pub answered-once : Answered-Once
 unfolding result

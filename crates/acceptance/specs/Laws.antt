@@ -4,6 +4,7 @@ use mathlib.Core.Logic.{_↔_}
 use mathlib.Core.List.{List, _++_}
 use Prim.Native.Nat.{ℕ}
 use lib.ListN.{length, take, drop}
+use Rattle.layout.specs.Mixed.{MixedEnds}
 use Rattle.answers.specs.declared.Answer.the-variants.{Accepted}
 use Rattle.answers.specs.Answers.{refusalNumber}
 use Rattle.sheet.specs.declared.Sheet.{Sheet}
@@ -31,14 +32,16 @@ turned t ws = drop t ws ++ take t ws
 unfoldable pub turnedText : Sheet → (ℕ → ℕ) → List ℕ
 turnedText s turn = sheetLines s (λ v. turned (turn v) (rotation s v))
 
--- a sound sheet stands at the front of the text, each ring beginning anywhere, and any bytes follow
+-- a sound sheet stands at the front of the text, each ring beginning anywhere, each line ending in 10 alone or in 13 10, and any bytes follow
 pub record Begins (text : List ℕ) : Type 0 where
   pub sheet : Sheet
   pub sized : Sized sheet
   pub sound : Sound sheet
   pub turn : ℕ → ℕ
+  pub lines : List ℕ
+  pub mixed : MixedEnds (turnedText sheet turn) lines
   pub rest : List ℕ
-  pub whole : text ≡ turnedText sheet turn ++ rest
+  pub whole : text ≡ lines ++ rest
 
 -- Load accepts exactly these texts.
 abbrev pub Load-Accepts : Type 0
@@ -46,5 +49,5 @@ Load-Accepts = (text : List ℕ) (present : Sheet) → load text present .answer
 
 -- It gives that sheet, and takes its bytes.
 abbrev pub Load-Gives : Type 0
-Load-Gives = (s : Sheet) → Sized s → Sound s → (turn : ℕ → ℕ) (rest : List ℕ) (present : Sheet)
-    → load (turnedText s turn ++ rest) present ≡ record { answer = Accepted; sheet = s; taken = length (turnedText s turn) }
+Load-Gives = (s : Sheet) → Sized s → Sound s → (turn : ℕ → ℕ) (lines : List ℕ) → MixedEnds (turnedText s turn) lines → (rest : List ℕ) (present : Sheet)
+    → load (lines ++ rest) present ≡ record { answer = Accepted; sheet = s; taken = length lines }

@@ -1,4 +1,4 @@
--- The plates checked by hand, as one table about the definitions: what `plate` prints for each input, and what is said of its sheet. (`|` stands for byte 10.)
+-- The plates checked by hand, as one table about the definitions: what `plate` prints for each input, and what is said of its sheet. (`|` stands for byte 10, `^` for byte 13.)
 use Prim.Native.Nat.{ℕ}
 use Prim.Native.String.{String}
 use mathlib.Core.Bool.{Bool, true, false, cond, _&&_}
@@ -14,7 +14,7 @@ use Rattle.examples.specs.Described.{described}
 
 -- a text with its line ends
 unfoldable pub lines : String → List ℕ
-lines text = map (λ b. cond (eqb b 124) 10 b) (bytes text)
+lines text = map (λ b. cond (eqb b 124) 10 (cond (eqb b 94) 13 b)) (bytes text)
 
 -- what is said of the sheet that the lines of an input describe: no more, that it is the fresh one, how many faces it has
 pub data Remark : Type 0 where
@@ -58,6 +58,14 @@ plates =
     ∷ plate "bars=129|" "refused=2|"
     ∷ plate "bars=1|" "refused=2|"
     ∷ plate "bars=02|" "refused=1|"
+    -- Line ends from the packaging line: P7 with lines ended in 13 10, and in both ways
+    ∷ plate "bars=2^|wires=2^|wire=0,1^|wire=0,1^|around=0,1^|around=0,1^|in=1^|run=0,1,2,2^|out=2^|" "refused=15|rows=3|columns=3|bar=0,0,2|bar=2,0,2|bar=1,0,1|wire=2,0,2|wire=0,0,1|wire=0,1,2|wire=1,0,1|"
+    ∷ plate "bars=2^|wires=2|wire=0,1|wire=0,1^|around=0,1|around=0,1^|in=1|run=0,1,2,2^|out=2|" "refused=15|rows=3|columns=3|bar=0,0,2|bar=2,0,2|bar=1,0,1|wire=2,0,2|wire=0,0,1|wire=0,1,2|wire=1,0,1|"
+    -- A 13 anywhere else is refused 1: 13 alone, 13 13 10, 10 13; on edit lines 13 13 10, and 13 at the end of the input
+    ∷ plate "bars=2^wires=2^wire=0,1^wire=0,1^around=0,1^around=0,1^" "refused=1|"
+    ∷ plate "bars=2^^|wires=2^^|wire=0,1^^|wire=0,1^^|around=0,1^^|around=0,1^^|" "refused=1|"
+    ∷ plate "bars=2|^wires=2|^wire=0,1|^wire=0,1|^around=0,1|^around=0,1|" "refused=1|"
+    ∷ plateOf fresh "bars=2|wires=2|wire=0,1|wire=0,1|around=0,1|around=0,1^|in=1^^|in=1^" "refused=1|refused=1|rows=2|columns=2|bar=0,0,1|bar=1,0,1|wire=1,0,1|wire=0,0,1|"
     ∷ []
 
 -- two texts are the same

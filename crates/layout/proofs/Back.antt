@@ -1,6 +1,6 @@
 -- What was written reads back. Assumes nothing.
 use Prim.Native.Nat.{ℕ, zero, suc, _+_, _/_, _%_, _≤_, _<_}
-use mathlib.Core.Path.{_≡_, refl, sym, ap, _∙_}
+use mathlib.Core.Path.{_≡_, refl, sym, ap, _∙_, subst}
 use mathlib.Core.Bool.{Bool, true, false}
 use mathlib.Core.List.{List, [], _∷_, _++_}
 use native.Mathlib.Numerals.{add-one}
@@ -11,8 +11,11 @@ use lib.ListN.{getD, length, drop, length-append, List·getD-eq-default}
 use lib.Seq.{drop-cons}
 use Rattle.text.specs.Written.{decimal, separated, lineEnd, line}
 use Rattle.text.specs.Reading.{digitAt, startsWith, listed, before, lineEndAt, numbersAt, lineAt, lastLineAt}
-use Rattle.layout.specs.Layout.{Stands, Digits, Numerals}
+use Rattle.layout.specs.Layout.{Stands, Digits, Numerals, LineEnd, LineAt, LastLineAt}
+use Rattle.layout.specs.Layout.LineEnd.{alone, after-13}
+use Rattle.layout.specs.Layout.LastLineAt.{whole, bare}
 use Rattle.text.proofs.DigitLaws.{low-digit}
+use Rattle.text.proofs.LineEnds.{end-alone, end-after-13}
 use Rattle.layout.proofs.Standing.{stands-head, stands-tail, stands-left, stands-right}
 use Rattle.buffer.proofs.Writing.{one, two, three}
 use Rattle.layout.proofs.Decimals.{number-back}
@@ -76,9 +79,18 @@ starts-there (k ∷ key) s at h =
     rw (drop-cons s at 0 i, eq-eqb (getD s at 0) k (stands-head h), ← add-one at) (starts-there key s (at + 1) (stands-tail h))
 
 -- a line end that stands at a place
-line-end-there : (s : List ℕ) (at : ℕ) → getD s at 0 ≡ 10 → lineEndAt s at ≡ 1
-unfolding lineEndAt
-line-end-there s at e = rw (eq-eqb (getD s at 0) 10 e)
+pub line-end-back : (s end : List ℕ) (at : ℕ) → LineEnd end → Stands s at end → lineEndAt s at ≡ length end
+line-end-back s end at alone h = end-alone s at (stands-head h)
+line-end-back s end at after-13 h = end-after-13 s at (stands-head h) (stands-head (stands-tail h))
+
+-- its first byte is no digit and no comma
+line-end-first : (s end : List ℕ) (at : ℕ) → LineEnd end → Stands s at end → (0 < length end) × (getD s at 0 < 14)
+line-end-first s end at alone h = (omega arith, omega (arith, stands-head h))
+line-end-first s end at after-13 h = (omega arith, omega (arith, stands-head h))
+
+pub line-written : (key s vs : List ℕ) (at : ℕ) → Numerals vs → Stands s at (line key vs) → LineAt key s at vs (at + length (line key vs))
+unfolding line
+line-written key s vs at n h = record { end = lineEnd; ends = alone; same = record { numerals = n; holds = h; place = refl } }
 
 module _ (key s vs : List ℕ) (at : ℕ) (n : Numerals vs) where
   -- the key and the numbers, which a byte follows that is no digit and no comma
@@ -87,28 +99,34 @@ module _ (key s vs : List ℕ) (at : ℕ) (n : Numerals vs) where
       keyed s last key at (starts-there key s at (stands-left key (separated vs) h))
       ∙ ap (closing last s) (numbers-back s vs (at + length key) n (stands-right key (separated vs) h) stop comma)
 
-  back : (last : Bool) → Stands s at (line key vs) → lineOf last key s at ≡ listed vs (at + length (line key vs))
-  unfolding line
-  back last h =
+  -- and a line end after them
+  back : (last : Bool) (end : List ℕ) → LineEnd end → Stands s at (key ++ separated vs ++ end) → lineOf last key s at ≡ listed vs (at + length (key ++ separated vs ++ end))
+  back last end E h =
       let next : ℕ = at + length key + length (separated vs) in
       let e : at + length (key ++ separated vs) ≡ next = omega (arith, length-append key (separated vs)) in
-      let b : getD s next 0 ≡ 10 = ap (λ (i : ℕ). getD s i 0) (sym e) ∙ stands-head (stands-right (key ++ separated vs) lineEnd h) in
-      let one : lineEndAt s next ≡ 1 = line-end-there s next b in
-      numbers-there last (stands-left (key ++ separated vs) lineEnd h) (omega (arith, low-digit (getD s next 0) (omega arith))) (λ c. omega arith)
+      let there : Stands s next end = subst (λ i. Stands s i end) e (stands-right (key ++ separated vs) end h) in
+      let size : lineEndAt s next ≡ length end = line-end-back s end next E there in
+      let (some, low) = line-end-first s end next E there in
+      numbers-there last (stands-left (key ++ separated vs) end h) (omega (arith, low-digit (getD s next 0) (omega arith))) (λ c. omega arith)
       ∙ closing-ended s vs next last (λ z. omega arith)
-      ∙ ap (listed vs) (omega (arith, length-append (key ++ separated vs) lineEnd))
+      ∙ ap (listed vs) (omega (arith, length-append (key ++ separated vs) end))
 
-  pub line-back : Stands s at (line key vs) → lineAt key s at ≡ listed vs (at + length (line key vs))
-  line-back = back false
-
-  pub last-back : Stands s at (line key vs) → lastLineAt key s at ≡ listed vs (at + length (line key vs))
-  last-back = back true
-
-  pub last-bare : Stands s at (key ++ separated vs) → at + length (key ++ separated vs) ≡ length s → lastLineAt key s at ≡ listed vs (length s)
-  last-bare h over =
+  bare-back : Stands s at (key ++ separated vs) → at + length (key ++ separated vs) ≡ length s → lastLineAt key s at ≡ listed vs (length s)
+  bare-back h over =
       let next : ℕ = at + length key + length (separated vs) in
       let e : next ≡ length s = omega (arith, length-append key (separated vs)) in
       let b : getD s next 0 ≡ 0 = List·getD-eq-default s 0 (omega arith) in
       numbers-there true h (omega (arith, low-digit (getD s next 0) (omega arith))) (λ c. omega arith)
       ∙ closing-over s vs next (omega arith)
       ∙ ap (listed vs) e
+
+module _ (key s vs : List ℕ) (at next : ℕ) where
+  whole-back : (last : Bool) → LineAt key s at vs next → lineOf last key s at ≡ listed vs next
+  whole-back last L = back key s vs at (L .same .numerals) last (L .end) (L .ends) (L .same .holds) ∙ ap (listed vs) (sym (L .same .place))
+
+  pub line-back : LineAt key s at vs next → lineAt key s at ≡ listed vs next
+  line-back = whole-back false
+
+  pub last-back : LastLineAt key s at vs next → lastLineAt key s at ≡ listed vs next
+  last-back (whole L) = whole-back true L
+  last-back (bare t over) = bare-back key s vs at (t .numerals) (t .holds) (sym (t .place) ∙ over) ∙ ap (listed vs) (sym over)

@@ -3,4 +3,5 @@ pub mod Decimals
 pub mod Back
 pub mod Only
 pub mod Shapes
+pub mod Mixed
 pub mod Laws

@@ -1,25 +1,29 @@
 -- Nothing but what is written is read. Assumes nothing.
 use Prim.Native.Nat.{ℕ, zero, suc, _+_, _≤_, _<_}
-use mathlib.Core.Path.{_≡_, refl, sym, ap, _∙_, subst₂}
-use mathlib.Core.Logic.{_⊎_, inl, inr}
+use mathlib.Core.Path.{_≡_, refl, sym, ap, _∙_, subst, subst₂}
+use mathlib.Core.Logic.{_≢_}
 use mathlib.Core.Bool.{Bool, true, false, _&&_, false≢true}
 use mathlib.Core.List.{List, [], _∷_, _++_}
 use native.Mathlib.Numerals.{add-one}
 use native.Mathlib.Decide.{decLt, ℕ-discrete}
 use native.Mathlib.Omega.{arith}
-use borrow.Author.Tests.{eq-eqb, ne-eqb, eqb-true}
+use borrow.Author.Tests.{eqb-true}
 use lib.Dec.{eqb}
 use lib.ListN.{getD, length, drop, length-append, drop-of-length-le}
 use lib.Seq.{drop-cons}
 use Rattle.text.specs.declared.Number.{Number}
 use Rattle.text.specs.declared.Number.the-variants.{Value, Missing}
-use Rattle.text.specs.Written.{decimal, separated, lineEnd, line}
+use Rattle.text.specs.Written.{decimal, separated}
 use Rattle.text.specs.Reading.{numberAt, startsWith, Listed, listed, unlisted, before, lineEndAt, numbersAt, lineAt, lastLineAt}
-use Rattle.layout.specs.Layout.{Stands, Numerals, Walk, single, more, Same}
+use Rattle.layout.specs.Layout.{Stands, Numerals, Walk, single, more, Same, LineEnd, LineAt, LastLineAt}
+use Rattle.layout.specs.Layout.LineEnd.{alone, after-13}
+use Rattle.layout.specs.Layout.LastLineAt.{whole, bare}
 use Rattle.layout.proofs.Standing.{stands-nil, stands-cons, stands-append}
 use Rattle.layout.proofs.Decimals.{number-stands}
 use Rattle.text.proofs.Listing.{numbers-none, numbers-last, numbers-more}
 use Rattle.text.proofs.DigitLaws.{inside}
+use Rattle.text.proofs.LineEnds.{Ended, ended-by}
+use Rattle.text.proofs.LineEnds.Ended.{by-10, by-13-10}
 use Rattle.text.proofs.Closing.{lineOf, closing, keyed, keyless, closing-none, closing-over, closing-ended, closing-open}
 
 never-listed : {A : Type 0} {vs : List ℕ} {next : ℕ} → unlisted ≡ listed vs next → A
@@ -95,19 +99,21 @@ starts-only (k ∷ key) s at l e = go (decLt at (length s)) (λ i f. starts-only
     go (yes i) ih = both (eqb (getD s at 0) k) refl (rw (drop-cons s at 0 i, ← add-one at) at e) i ih
     go (no n) ih = let d : drop at s ≡ [] = drop-of-length-le s {i = at} (omega arith) in absurd (false≢true (rw d at e))
 
--- a line end that is read is the written one
-line-end-only : (s : List ℕ) (at : ℕ) → (lineEndAt s at ≡ 0 → ⊥) → (getD s at 0 ≡ 10) × (lineEndAt s at ≡ 1)
-unfolding lineEndAt
-line-end-only s at n = go (ℕ-discrete (getD s at 0) 10)
+-- a line end that is read stands there
+pub line-end-only : (s : List ℕ) (at : ℕ) → lineEndAt s at ≢ 0 → (end : List ℕ) × LineEnd end × Stands s at end × (lineEndAt s at ≡ length end)
+line-end-only s at n = go (ended-by s at n)
   where
-    go : Dec (getD s at 0 ≡ 10) → (getD s at 0 ≡ 10) × (lineEndAt s at ≡ 1)
-    go (yes e) = (e, rw (eq-eqb (getD s at 0) 10 e))
-    go (no m) = absurd (n (rw (ne-eqb (getD s at 0) 10 m)))
+    last-byte : (i : ℕ) → getD s i 0 ≡ 10 → Stands s i (10 ∷ [])
+    last-byte i e = let l = inside s i (omega arith) in stands-cons l e (stands-nil s (i + 1) (omega arith))
+
+    go : Ended s at → (end : List ℕ) × LineEnd end × Stands s at end × (lineEndAt s at ≡ length end)
+    go (by-10 e l) = (10 ∷ [], alone, last-byte at e, l)
+    go (by-13-10 e f l) = (13 ∷ 10 ∷ [], after-13, stands-cons (inside s at (omega arith)) e (last-byte (at + 1) f), l)
 
 -- a line that was read: whole, or the last without its end
 data Line (last : Bool) (key s : List ℕ) (at : ℕ) (vs : List ℕ) (next : ℕ) : Type 0 where
-  whole : Same s at vs (line key vs) next → Line last key s at vs next
-  bare : last ≡ true → Same s at vs (key ++ separated vs) next → next ≡ length s → Line last key s at vs next
+  ended : LineAt key s at vs next → Line last key s at vs next
+  open′ : last ≡ true → Same s at vs (key ++ separated vs) next → next ≡ length s → Line last key s at vs next
 
 module _ (key s : List ℕ) (at : ℕ) where
   -- the key, and after it the numbers
@@ -120,32 +126,32 @@ module _ (key s : List ℕ) (at : ℕ) where
         place = omega (arith, t .place, length-append key (separated vs));
       }
 
-  ended-only : (vs : List ℕ) (next : ℕ) → Same s at vs (key ++ separated vs) next → (lineEndAt s next ≡ 0 → ⊥) → Same s at vs (line key vs) (next + lineEndAt s next)
-  unfolding line
+  ended-only : (vs : List ℕ) (next : ℕ) → Same s at vs (key ++ separated vs) next → lineEndAt s next ≢ 0 → LineAt key s at vs (next + lineEndAt s next)
   ended-only vs next t n =
-      let (b, o) = line-end-only s next n in
-      let i = inside s next (omega arith) in
-      let p = t .place in
-      let there : Stands s next lineEnd = stands-cons i b (stands-nil s (next + 1) (omega arith)) in
+      let (end, E, there, size) = line-end-only s next n in
       record {
-        numerals = t .numerals;
-        holds = stands-append (key ++ separated vs) lineEnd (t .holds) (rw p at there);
-        place = omega (arith, length-append (key ++ separated vs) lineEnd);
+        end = end;
+        ends = E;
+        same = record {
+          numerals = t .numerals;
+          holds = stands-append (key ++ separated vs) end (t .holds) (subst (λ i. Stands s i end) (t .place) there);
+          place = omega (arith, t .place, length-append (key ++ separated vs) end);
+        };
       }
 
   only : (last : Bool) (vs : List ℕ) (next : ℕ) → lineOf last key s at ≡ listed vs next → Line last key s at vs next
   only last vs next e = go (startsWith key (drop at s)) refl
     where
       -- no line end after the numbers
-      open′ : (b : Bool) (ws : List ℕ) (n : ℕ) → Same s at ws (key ++ separated ws) n → lineEndAt s n ≡ 0 → closing b s (listed ws n) ≡ listed vs next → Dec (n < length s) → Line b key s at vs next
-      open′ false ws n t z f d = never-listed (sym (closing-open s ws n false (λ q. absurd (false≢true q)) z) ∙ f)
-      open′ true ws n t z f (yes l) = never-listed (sym (closing-open s ws n true (λ q. l) z) ∙ f)
-      open′ true ws n t z f (no l) =
-          same-listed (λ us i. Line true key s at us i) (sym (closing-over s ws n (omega arith)) ∙ f) (bare refl t (omega (arith, t .holds .room, t .place)))
+      unended : (b : Bool) (ws : List ℕ) (n : ℕ) → Same s at ws (key ++ separated ws) n → lineEndAt s n ≡ 0 → closing b s (listed ws n) ≡ listed vs next → Dec (n < length s) → Line b key s at vs next
+      unended false ws n t z f d = never-listed (sym (closing-open s ws n false (λ q. absurd (false≢true q)) z) ∙ f)
+      unended true ws n t z f (yes l) = never-listed (sym (closing-open s ws n true (λ q. l) z) ∙ f)
+      unended true ws n t z f (no l) =
+          same-listed (λ us i. Line true key s at us i) (sym (closing-over s ws n (omega arith)) ∙ f) (open′ refl t (omega (arith, t .holds .room, t .place)))
 
       ends : (ws : List ℕ) (n : ℕ) → Same s at ws (key ++ separated ws) n → closing last s (listed ws n) ≡ listed vs next → Dec (lineEndAt s n ≡ 0) → Line last key s at vs next
-      ends ws n t f (yes z) = open′ last ws n t z f (decLt n (length s))
-      ends ws n t f (no z) = same-listed (λ us i. Line last key s at us i) (sym (closing-ended s ws n last z) ∙ f) (whole (ended-only ws n t z))
+      ends ws n t f (yes z) = unended last ws n t z f (decLt n (length s))
+      ends ws n t f (no z) = same-listed (λ us i. Line last key s at us i) (sym (closing-ended s ws n last z) ∙ f) (ended (ended-only ws n t z))
 
       numbers : startsWith key (drop at s) ≡ true → (l : Listed) → numbersAt s (at + length key) ≡ l → Line last key s at vs next
       numbers k (listed ws n) m = ends ws n (keyed-only ws n k m) (sym (keyed s last key at k ∙ ap (closing last s) m) ∙ e) (ℕ-discrete (lineEndAt s n) 0)
@@ -155,16 +161,16 @@ module _ (key s : List ℕ) (at : ℕ) where
       go true k = numbers k (numbersAt s (at + length key)) refl
       go false k = never-listed (sym (keyless s last key at k) ∙ e)
 
-pub line-only : (key s vs : List ℕ) (at next : ℕ) → lineAt key s at ≡ listed vs next → Same s at vs (line key vs) next
+pub line-only : (key s vs : List ℕ) (at next : ℕ) → lineAt key s at ≡ listed vs next → LineAt key s at vs next
 line-only key s vs at next e = go (only key s at false vs next e)
   where
-    go : Line false key s at vs next → Same s at vs (line key vs) next
-    go (whole t) = t
-    go (bare q t p) = absurd (false≢true q)
+    go : Line false key s at vs next → LineAt key s at vs next
+    go (ended t) = t
+    go (open′ q t p) = absurd (false≢true q)
 
-pub last-only : (key s vs : List ℕ) (at next : ℕ) → lastLineAt key s at ≡ listed vs next → Same s at vs (line key vs) next ⊎ (Same s at vs (key ++ separated vs) next × (next ≡ length s))
+pub last-only : (key s vs : List ℕ) (at next : ℕ) → lastLineAt key s at ≡ listed vs next → LastLineAt key s at vs next
 last-only key s vs at next e = go (only key s at true vs next e)
   where
-    go : Line true key s at vs next → Same s at vs (line key vs) next ⊎ (Same s at vs (key ++ separated vs) next × (next ≡ length s))
-    go (whole t) = inl t
-    go (bare q t p) = inr (t, p)
+    go : Line true key s at vs next → LastLineAt key s at vs next
+    go (ended t) = whole t
+    go (open′ q t p) = bare t p

@@ -1,13 +1,13 @@
 -- What stands at a place of a text, and what reading and writing owe each other.
 use Prim.Native.Nat.{ℕ, _+_, _≤_, _<_}
 use mathlib.Core.Path.{_≡_}
-use mathlib.Core.Logic.{_⊎_}
+use mathlib.Core.Logic.{_≢_, _⊎_}
 use mathlib.Core.List.{List, [], _∷_, _++_}
 use lib.ListN.{getD, length}
 use lib.Seq.{sets}
 use Rattle.text.specs.declared.Number.the-variants.{Value}
 use Rattle.text.specs.Written.{decimal, separated, line}
-use Rattle.text.specs.Reading.{digitAt, numberAt, listed, numbersAt, lineAt, lastLineAt}
+use Rattle.text.specs.Reading.{digitAt, numberAt, listed, lineEndAt, numbersAt, lineAt, lastLineAt}
 
 -- the bytes ds stand at a place of the text s
 pub record Stands (s : List ℕ) (at : ℕ) (ds : List ℕ) : Type 0 where
@@ -37,9 +37,21 @@ pub record Same (s : List ℕ) (at : ℕ) (vs ds : List ℕ) (next : ℕ) : Type
   pub holds : Stands s at ds
   pub place : next ≡ at + length ds
 
--- a line of the layout stands in the text at a place: its key, the numbers vs with a comma between, byte 10; `next` is the place after it
-abbrev pub LineAt : List ℕ → List ℕ → ℕ → List ℕ → ℕ → Type 0
-LineAt key text at vs next = Same text at vs (line key vs) next
+-- A line may end in 10 alone or in 13 followed by 10.
+pub data LineEnd : List ℕ → Type 0 where
+  alone : LineEnd (10 ∷ [])
+  after-13 : LineEnd (13 ∷ 10 ∷ [])
+
+-- a line of the layout stands in the text at a place: its key, the numbers vs with a comma between, a line end; `next` is the place after it
+pub record LineAt (key text : List ℕ) (at : ℕ) (vs : List ℕ) (next : ℕ) : Type 0 where
+  pub end : List ℕ
+  pub ends : LineEnd end
+  pub same : Same text at vs (key ++ separated vs ++ end) next
+
+-- the same of a line that may be the text's last and lack its end
+pub data LastLineAt (key text : List ℕ) (at : ℕ) (vs : List ℕ) (next : ℕ) : Type 0 where
+  whole : LineAt key text at vs next → LastLineAt key text at vs next
+  bare : Same text at vs (key ++ separated vs) next → next ≡ length text → LastLineAt key text at vs next
 
 -- What is written reads back, and nothing but what is written is read.
 pub record Layout : Type 0 where
@@ -51,9 +63,13 @@ pub record Layout : Type 0 where
   pub numbers-back : (s vs : List ℕ) (at : ℕ) → Numerals vs → Stands s at (separated vs) → 10 ≤ digitAt s (at + length (separated vs)) → (getD s (at + length (separated vs)) 0 ≡ 44 → ⊥) → numbersAt s at ≡ listed vs (at + length (separated vs))
   pub numbers-only : (s vs : List ℕ) (at next : ℕ) → numbersAt s at ≡ listed vs next → Same s at vs (separated vs) next
   pub numbers-walk : (s vs : List ℕ) (at next : ℕ) → numbersAt s at ≡ listed vs next → Walk s at vs next
-  pub line-back : (key s vs : List ℕ) (at : ℕ) → Numerals vs → Stands s at (line key vs) → lineAt key s at ≡ listed vs (at + length (line key vs))
-  pub line-only : (key s vs : List ℕ) (at next : ℕ) → lineAt key s at ≡ listed vs next → Same s at vs (line key vs) next
+  -- a line end is one of the two, and so many bytes
+  pub line-end-back : (s end : List ℕ) (at : ℕ) → LineEnd end → Stands s at end → lineEndAt s at ≡ length end
+  pub line-end-only : (s : List ℕ) (at : ℕ) → lineEndAt s at ≢ 0 → (end : List ℕ) × LineEnd end × Stands s at end × (lineEndAt s at ≡ length end)
+  -- a written line is a line of the layout
+  pub line-written : (key s vs : List ℕ) (at : ℕ) → Numerals vs → Stands s at (line key vs) → LineAt key s at vs (at + length (line key vs))
+  pub line-back : (key s vs : List ℕ) (at next : ℕ) → LineAt key s at vs next → lineAt key s at ≡ listed vs next
+  pub line-only : (key s vs : List ℕ) (at next : ℕ) → lineAt key s at ≡ listed vs next → LineAt key s at vs next
   -- the last line, with its end and without
-  pub last-back : (key s vs : List ℕ) (at : ℕ) → Numerals vs → Stands s at (line key vs) → lastLineAt key s at ≡ listed vs (at + length (line key vs))
-  pub last-bare : (key s vs : List ℕ) (at : ℕ) → Numerals vs → Stands s at (key ++ separated vs) → at + length (key ++ separated vs) ≡ length s → lastLineAt key s at ≡ listed vs (length s)
-  pub last-only : (key s vs : List ℕ) (at next : ℕ) → lastLineAt key s at ≡ listed vs next → Same s at vs (line key vs) next ⊎ (Same s at vs (key ++ separated vs) next × (next ≡ length s))
+  pub last-back : (key s vs : List ℕ) (at next : ℕ) → LastLineAt key s at vs next → lastLineAt key s at ≡ listed vs next
+  pub last-only : (key s vs : List ℕ) (at next : ℕ) → lastLineAt key s at ≡ listed vs next → LastLineAt key s at vs next

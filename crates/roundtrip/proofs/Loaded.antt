@@ -12,7 +12,7 @@ use lib.Seq.{getD-set-same, getD-set-other, getD-at}
 use Rattle.clauses.specs.Darts.{touchesOf, dartOf}
 use Rattle.counting.specs.Choice.{pick}
 use Rattle.text.specs.Reading.{lineAt}
-use Rattle.layout.proofs.Shapes.{one-shaped, two-shaped, some-shaped}
+use Rattle.layout.proofs.Shapes.{line-reads, one-shaped, two-shaped, some-shaped}
 use Rattle.sheet.specs.declared.Sheet.{Sheet}
 use Rattle.answers.specs.declared.Answer.the-variants.{Accepted}
 use Rattle.answers.specs.Answers.{refusalNumber}
@@ -145,7 +145,7 @@ module _ (s : Sheet) (E : Edged s (s .edges)) where
   rings-good text zero rings nexts v at z e R =
       let full : length rings ≡ s .vertices = omega arith in
       judged-good (withNexts s nexts) at (whole-sized rings nexts full R) (whole-lined rings nexts full R)
-  rings-good text (suc r) rings nexts v at z e R = some-shaped aroundKey text at Good _ _ (λ _. refl) (λ ws next _.
+  rings-good text (suc r) rings nexts v at z e R = some-shaped (line-reads aroundKey text at) Good _ _ (λ _. refl) (λ ws next _.
       pick-each Good (isRotation s v ws) _ _
       (λ t. rw (link-anew s v (getD ws 0 0) nexts ws nexts) (rings-good text r (rings ++ ws ∷ []) (linkRing s v ws nexts) (v + 1) next (omega (arith, length-append rings (ws ∷ []))) (omega arith) (ring-read rings v ws nexts z R (around-law s v ws .0 t))))
       (λ _. refl))
@@ -161,7 +161,7 @@ unfolding edgeLines withEdge withNexts isAccepted refusalNumber
 edges-good text zero s k at e E =
     let whole : Edged s (s .edges) = subst (Edged s) (omega arith) E in
     rings-good s whole text (s .vertices) [] (s .nexts) 0 at refl (omega arith) (none-ringed s k E)
-edges-good text (suc r) s k at e E = two-shaped wireKey text at Good _ _ (λ _. refl) (λ a b next _.
+edges-good text (suc r) s k at e E = two-shaped (line-reads wireKey text at) Good _ _ (λ _. refl) (λ a b next _.
     pick-each Good _ _ _
     (λ t. let ((l, m), n) = edge-says s a b .0 t in edges-good text r (withEdge s k a b) (k + 1) next (omega arith) (edge-read s k a b E (omega arith) l m n))
     (λ _. refl))
@@ -179,7 +179,7 @@ empty-read n m a b c d = record {
 
 count-good : (key text : List ℕ) (at most : ℕ) (good : ℕ → ℕ → Parsed) → ((n next : ℕ) → 2 ≤ n → n ≤ most → Good (good n next)) → Good (withCount (lineAt key text at) most good)
 unfolding withCount isAccepted refusalNumber
-count-good key text at most good f = one-shaped key text at Good _ _ (λ _. refl) (λ n next _.
+count-good key text at most good f = one-shaped (line-reads key text at) Good _ _ (λ _. refl) (λ n next _.
     pick-each Good (leb 2 n && leb n most) _ _ (λ t. let (l, m) = and-says (le-says 2 n) (le-says n most) .0 t in f n next l m) (λ _. refl))
 
 parse-good : (text : List ℕ) → Good (parse text)

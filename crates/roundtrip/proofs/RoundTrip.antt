@@ -1,5 +1,5 @@
 -- A written sheet reads back as the same sheet. Assumes nothing.
-use mathlib.Core.Path.{_≡_, refl, sym, _∙_, ap}
+use mathlib.Core.Path.{_≡_, refl, sym, _∙_, ap, subst}
 use mathlib.Core.Logic.{by-cases}
 use mathlib.Core.Bool.{true}
 use mathlib.Core.List.{List, [], _∷_, _++_}
@@ -16,7 +16,8 @@ use Rattle.text.specs.Shapes.{withOne, withTwo, withSome}
 use Rattle.text.specs.Written.{line}
 use Rattle.layout.specs.Layout.{Stands, Numerals}
 use Rattle.layout.proofs.Standing.{stands-left, stands-right}
-use Rattle.layout.proofs.Laws.{layout}
+use Rattle.layout.specs.Mixed.{MixedEnds}
+use Rattle.layout.proofs.Mixed.{mixed-same, mixed-parts, endless, mixed-read}
 use Rattle.sheet.specs.declared.Sheet.{Sheet}
 use Rattle.answers.specs.declared.Answer.the-variants.{Accepted}
 use Rattle.answers.specs.Answers.{refusalNumber}
@@ -32,14 +33,14 @@ use Rattle.writesheet.specs.Rings.{rotation}
 use Rattle.load.specs.Load.{Parsed, emptySheet, withEdge, withNexts, judged, ringLines, edgeLines, withCount, parse, loaded, load}
 use Rattle.load.specs.Load.Parsed.{parsed}
 use Rattle.writesheet.specs.Write.{sheetLines, sheetText}
-use Rattle.roundtrip.specs.Laws.{Round-Trip}
+use Rattle.roundtrip.specs.Laws.{Round-Trip, Mixed-Round-Trip}
 use Rattle.roundtrip.proofs.Entries.{zeros, zeros-length, zeros-each, Filled, filled-none, filled-more, filled-all}
 use Rattle.roundtrip.proofs.Around.{around-law}
 use Rattle.soundness.proofs.Ends.{at-below}
 use Rattle.roundtrip.proofs.Linking.{link-length, link-anew, link-other}
 use Rattle.roundtrip.proofs.Laid.{link-leaves}
 use Rattle.roundtrip.proofs.Rotations.{Rotated, rotated}
-use Rattle.roundtrip.proofs.Standing.{stands-front, joined-length, stands-joined, one-number, two-numbers}
+use Rattle.roundtrip.proofs.Standing.{stands-front, joined-length, stands-joined, one-number, two-numbers, Joined, mixed-joined}
 
 -- the lines of a wire and of a bar
 abbrev edgeText : Sheet → ℕ → List ℕ
@@ -104,54 +105,62 @@ module _ (s : Sheet) (z : Sized s) (S : Sound s) (ring : ℕ → List ℕ) (rota
       (λ l. P .unused d (omega arith) ∙ sym (S .unused .nexts d (omega arith))))
 
   -- the lines of the rings stand in the text at a place
-  module _ (text : List ℕ) (base : ℕ) (H : Stands text base (joinBelow (ringText ring) (s .vertices))) where
-    rings-back : (r : ℕ) (nexts : List ℕ) (v at : ℕ) → v + r ≡ s .vertices → at ≡ base + length (joinBelow (ringText ring) v) → Placed v nexts
-        → ringLines r text (withNexts s nexts) v at ≡ parsed s (base + length (joinBelow (ringText ring) (s .vertices)))
-    unfolding ringLines withNexts
+  module _ (text : List ℕ) (base : ℕ) (us : List ℕ) (J : Joined (ringText ring) (s .vertices) us) (H : Stands text base us) where
+    rings-back : (r : ℕ) (nexts : List ℕ) (v at : ℕ) → v + r ≡ s .vertices → at ≡ base + length (joinBelow (J .mixed) v) → Placed v nexts
+        → ringLines r text (withNexts s nexts) v at ≡ parsed s (base + length us)
+    unfolding ringLines withNexts endless
     rings-back zero nexts v at e p P =
         let q : v ≡ s .vertices = omega arith in
-        rw (placed-all nexts (rw q at P), p, q) (judged-back _)
+        rw (placed-all nexts (rw q at P), p, q, ← J .whole) (judged-back _)
     rings-back (suc r) nexts v at e p P =
         let T : Rotated s v (ring v) = rotates v (omega arith) in
         let numerals : Numerals (ring v) = record { some = T .some; small = λ i h. omega (arith, T .around .inside i h, S .limits .edges-most) } in
-        let there : Stands text at (ringText ring v) = rw p (stands-joined (ringText ring) (s .vertices) v (omega arith) H) in
-        ring-step text s nexts (ring v) r v at (at + length (ringText ring v)) (layout .line-back aroundKey text (ring v) at numerals there) (around-law s v (ring v) .1 (T .around))
-        ∙ rings-back r (linkRing s v (ring v) nexts) (v + 1) (at + length (ringText ring v)) (omega arith) (omega (arith, joined-length (ringText ring) v)) (placed-more v nexts (omega arith) P)
+        let there : Stands text at (J .mixed v) = rw p (stands-joined (J .mixed) (s .vertices) v (omega arith) (subst (Stands text base) (J .whole) H)) in
+        ring-step text s nexts (ring v) r v at (at + length (J .mixed v)) (mixed-read aroundKey text (ring v) (J .mixed v) at refl numerals (J .each v (omega arith)) there) (around-law s v (ring v) .1 (T .around))
+        ∙ rings-back r (linkRing s v (ring v) nexts) (v + 1) (at + length (J .mixed v)) (omega arith) (omega (arith, joined-length (J .mixed) v)) (placed-more v nexts (omega arith) P)
 
   -- and those of the wires
-  module _ (text : List ℕ) (base : ℕ) (H : Stands text base (joinBelow (edgeText s) (s .edges))) where
-    edges-back : (r : ℕ) (tails heads : List ℕ) (k at : ℕ) → k + r ≡ s .edges → at ≡ base + length (joinBelow (edgeText s) k) → Filled (s .tails) k tails → Filled (s .heads) k heads
-        → edgeLines r text (partly s tails heads) k at ≡ ringLines (s .vertices) text (withNexts s (zeros 512)) 0 (base + length (joinBelow (edgeText s) (s .edges)))
-    unfolding edgeLines withNexts partly
+  module _ (text : List ℕ) (base : ℕ) (us : List ℕ) (J : Joined (edgeText s) (s .edges) us) (H : Stands text base us) where
+    edges-back : (r : ℕ) (tails heads : List ℕ) (k at : ℕ) → k + r ≡ s .edges → at ≡ base + length (joinBelow (J .mixed) k) → Filled (s .tails) k tails → Filled (s .heads) k heads
+        → edgeLines r text (partly s tails heads) k at ≡ ringLines (s .vertices) text (withNexts s (zeros 512)) 0 (base + length us)
+    unfolding edgeLines withNexts partly endless
     edges-back zero tails heads k at e p F G =
         let q : k ≡ s .edges = omega arith in
-        rw (filled-all (S .unused .tails) (rw q at F), filled-all (S .unused .heads) (rw q at G), p, q)
+        rw (filled-all (S .unused .tails) (rw q at F), filled-all (S .unused .heads) (rw q at G), p, q, ← J .whole)
     edges-back (suc r) tails heads k at e p F G =
-        let J : Joins s k = S .joins k (omega arith) in
-        let numerals : Numerals (tail s k ∷ head s k ∷ []) = two-numbers (tail s k) (head s k) (omega (arith, S .limits .vertices-most)) (omega (arith, S .limits .vertices-most)) in
-        let there : Stands text at (edgeText s k) = rw p (stands-joined (edgeText s) (s .edges) k (omega arith) H) in
-        edge-step text s tails heads r k at (at + length (edgeText s k)) (layout .line-back wireKey text (tail s k ∷ head s k ∷ []) at numerals there) J
-        ∙ edges-back r (set tails k (tail s k)) (set heads k (head s k)) (k + 1) (at + length (edgeText s k)) (omega arith) (omega (arith, joined-length (edgeText s) k))
+        let joins : Joins s k = S .joins k (omega arith) in
+        let numerals : Numerals (tail s k ∷ head s k ∷ []) = two-numbers (tail s k) (head s k) (omega (arith, joins .tail-in, S .limits .vertices-most)) (omega (arith, joins .head-in, S .limits .vertices-most)) in
+        let there : Stands text at (J .mixed k) = rw p (stands-joined (J .mixed) (s .edges) k (omega arith) (subst (Stands text base) (J .whole) H)) in
+        edge-step text s tails heads r k at (at + length (J .mixed k)) (mixed-read wireKey text (tail s k ∷ head s k ∷ []) (J .mixed k) at refl numerals (J .each k (omega arith)) there) joins
+        ∙ edges-back r (set tails k (tail s k)) (set heads k (head s k)) (k + 1) (at + length (J .mixed k)) (omega arith) (omega (arith, joined-length (J .mixed) k))
         (filled-more (omega (arith, z .tails, S .limits .edges-most)) F) (filled-more (omega (arith, z .heads, S .limits .edges-most)) G)
 
   placed-none : Placed 0 (zeros 512)
   placed-none = record { sized = zeros-length 512; done = λ d h l. absurd (omega arith); unused = λ d h. zeros-each 512 d }
 
   -- the whole text stands at the front
-  parse-back : (text : List ℕ) → Stands text 0 (sheetLines s ring) → parse text ≡ parsed s (length (sheetLines s ring))
-  unfolding parse emptySheet partly joinBelow
-  parse-back text H =
-      let before-rings : Stands text 0 (bars ++ wires ++ edges) = stands-left (bars ++ wires ++ edges) rings H in
-      let counts : Stands text 0 (bars ++ wires) = stands-left (bars ++ wires) edges before-rings in
-      count-step (lineAt barsKey text 0) (s .vertices) (0 + length bars) 128 _
-      (layout .line-back barsKey text (s .vertices ∷ []) 0 (one-number (s .vertices) (omega (arith, S .limits .vertices-most))) (stands-left bars wires counts)) (S .limits .vertices-least) (S .limits .vertices-most)
-      ∙ count-step (lineAt wiresKey text (0 + length bars)) (s .edges) (0 + length bars + length wires) 256 _
-      (layout .line-back wiresKey text (s .edges ∷ []) (0 + length bars) (one-number (s .edges) (omega (arith, S .limits .edges-most))) (stands-right bars wires counts)) (S .limits .edges-least) (S .limits .edges-most)
-      ∙ edges-back text (0 + length (bars ++ wires)) (stands-right (bars ++ wires) edges before-rings) (s .edges) (zeros 256) (zeros 256) 0 (0 + length bars + length wires)
-      (omega arith) (omega (arith, length-append bars wires)) (filled-none (z .tails)) (filled-none (z .heads))
-      ∙ rings-back text (0 + length (bars ++ wires ++ edges)) (stands-right (bars ++ wires ++ edges) rings H) (s .vertices) (zeros 512) 0 (0 + length (bars ++ wires) + length edges)
-      (omega arith) (omega (arith, length-append (bars ++ wires) edges)) placed-none
-      ∙ ap (parsed s) (omega (arith, length-append (bars ++ wires ++ edges) rings))
+  parse-back : (text us : List ℕ) → MixedEnds (sheetLines s ring) us → Stands text 0 us → parse text ≡ parsed s (length us)
+  unfolding parse emptySheet partly joinBelow endless
+  parse-back text us m H =
+      let last = mixed-parts (bars ++ wires ++ edges) rings us m in
+      let third = mixed-parts (bars ++ wires) edges (last .front) (last .front-mixed) in
+      let second = mixed-parts bars wires (third .front) (third .front-mixed) in
+      let whole : Stands text 0 (last .front ++ last .back) = subst (Stands text 0) (last .whole) H in
+      let before-rings : Stands text 0 (third .front ++ third .back) = subst (Stands text 0) (third .whole) (stands-left (last .front) (last .back) whole) in
+      let counts : Stands text 0 (second .front ++ second .back) = subst (Stands text 0) (second .whole) (stands-left (third .front) (third .back) before-rings) in
+      let first-two : length (third .front) ≡ length (second .front) + length (second .back) = ap length (second .whole) ∙ length-append (second .front) (second .back) in
+      let first-three : length (last .front) ≡ length (third .front) + length (third .back) = ap length (third .whole) ∙ length-append (third .front) (third .back) in
+      count-step (lineAt barsKey text 0) (s .vertices) (0 + length (second .front)) 128 _
+      (mixed-read barsKey text (s .vertices ∷ []) (second .front) 0 refl (one-number (s .vertices) (omega (arith, S .limits .vertices-most))) (second .front-mixed) (stands-left (second .front) (second .back) counts))
+      (S .limits .vertices-least) (S .limits .vertices-most)
+      ∙ count-step (lineAt wiresKey text (0 + length (second .front))) (s .edges) (0 + length (second .front) + length (second .back)) 256 _
+      (mixed-read wiresKey text (s .edges ∷ []) (second .back) (0 + length (second .front)) refl (one-number (s .edges) (omega (arith, S .limits .edges-most))) (second .back-mixed) (stands-right (second .front) (second .back) counts))
+      (S .limits .edges-least) (S .limits .edges-most)
+      ∙ edges-back text (0 + length (third .front)) (third .back) (mixed-joined (edgeText s) (s .edges) (third .back) (third .back-mixed)) (stands-right (third .front) (third .back) before-rings)
+      (s .edges) (zeros 256) (zeros 256) 0 (0 + length (second .front) + length (second .back)) (omega arith) (omega (arith, first-two)) (filled-none (z .tails)) (filled-none (z .heads))
+      ∙ rings-back text (0 + length (last .front)) (last .back) (mixed-joined (ringText ring) (s .vertices) (last .back) (last .back-mixed)) (stands-right (last .front) (last .back) whole)
+      (s .vertices) (zeros 512) 0 (0 + length (third .front) + length (third .back)) (omega arith) (omega (arith, first-three)) placed-none
+      ∙ ap (parsed s) (omega (arith, ap length (last .whole), length-append (last .front) (last .back)))
     where
       bars : List ℕ
       bars = line barsKey (s .vertices ∷ [])
@@ -165,10 +174,13 @@ module _ (s : Sheet) (z : Sized s) (S : Sound s) (ring : ℕ → List ℕ) (rota
       rings : List ℕ
       rings = joinBelow (ringText ring) (s .vertices)
 
-  pub lines-back : (rest : List ℕ) (present : Sheet) → load (sheetLines s ring ++ rest) present ≡ record { answer = Accepted; sheet = s; taken = length (sheetLines s ring) }
+  pub lines-back : (text : List ℕ) → MixedEnds (sheetLines s ring) text → (rest : List ℕ) (present : Sheet) → load (text ++ rest) present ≡ record { answer = Accepted; sheet = s; taken = length text }
   unfolding loaded
-  lines-back rest present = ap (loaded present) (parse-back (sheetLines s ring ++ rest) (stands-front (sheetLines s ring) rest))
+  lines-back text m rest present = ap (loaded present) (parse-back (text ++ rest) text m (stands-front text rest))
+
+pub mixed-round-trip : Mixed-Round-Trip
+unfolding sheetText
+mixed-round-trip s z S text m rest present = lines-back s z S (rotation s) (rotated s S) text m rest present
 
 pub round-trip : Round-Trip
-unfolding sheetText
-round-trip s z S rest present = lines-back s z S (rotation s) (rotated s S) rest present
+round-trip s z S rest present = mixed-round-trip s z S (sheetText s) (mixed-same (sheetText s)) rest present

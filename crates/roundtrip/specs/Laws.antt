@@ -7,6 +7,7 @@ use Rattle.sheet.specs.declared.Sheet.{Sheet}
 use Rattle.answers.specs.declared.Answer.the-variants.{Accepted}
 use Rattle.sheet.specs.Darts.{Sized}
 use Rattle.sheet.specs.Sound.{Sound}
+use Rattle.layout.specs.Mixed.{MixedEnds}
 use Rattle.load.specs.Load.{load}
 use Rattle.writesheet.specs.Write.{sheetText, writeSheet, bufferAfterSheet}
 
@@ -17,6 +18,11 @@ Loaded-Sound = (text : List ℕ) (present : Sheet) → load text present .answer
 -- What write sheet writes, load accepts: it gives the same sheet, and takes those bytes, whatever follows them.
 abbrev pub Round-Trip : Type 0
 Round-Trip = (s : Sheet) → Sized s → Sound s → (rest : List ℕ) (present : Sheet) → load (sheetText s ++ rest) present ≡ record { answer = Accepted; sheet = s; taken = length (sheetText s) }
+
+-- So it does with any of its line ends turned into 13 10.
+abbrev pub Mixed-Round-Trip : Type 0
+Mixed-Round-Trip = (s : Sheet) → Sized s → Sound s → (text : List ℕ) → MixedEnds (sheetText s) text → (rest : List ℕ) (present : Sheet)
+    → load (text ++ rest) present ≡ record { answer = Accepted; sheet = s; taken = length text }
 
 -- So what the call leaves in its buffer loads as the sheet that was written.
 abbrev pub Written-Loads : Type 0

@@ -3,14 +3,13 @@ use Prim.Native.Nat.{ℕ, suc, _+_, _≤_, _<_}
 use mathlib.Core.Path.{_≡_, refl, sym, ap, _∙_}
 use mathlib.Core.Bool.{Bool, true, false, cond, _&&_, false≢true}
 use mathlib.Core.List.{List, [], _∷_}
-use native.Mathlib.Decide.{ℕ-discrete}
 use native.Mathlib.Omega.{arith}
 use borrow.Author.Tests.{le-leb, lt-leb, eq-eqb, ne-eqb}
 use lib.Dec.{eqb}
 use lib.ListN.{getD, length, drop}
 use Rattle.text.specs.declared.Numbers.{Numbers}
 use Rattle.text.specs.Reading.{startsWith, Listed, listed, unlisted, lineEndAt, numbersAt, closed, lastClosed, lineAt, lastLineAt, numbersOf}
-use Rattle.text.proofs.DigitLaws.{inside}
+use Rattle.text.proofs.LineEnds.{line-end-inside}
 
 -- a key that is there is no longer than the text
 pub starts-length : (ks t : List ℕ) → startsWith ks t ≡ true → length ks ≤ length t
@@ -22,15 +21,6 @@ starts-length (k ∷ ks) (b ∷ t) e = go (eqb b k) e (starts-length ks t)
     go : (x : Bool) → (x && startsWith ks t) ≡ true → (startsWith ks t ≡ true → length ks ≤ length t) → suc (length ks) ≤ suc (length t)
     go true u ih = omega (arith, ih u)
     go false u ih = absurd (false≢true u)
-
--- a line end has a byte, and stands in the text
-pub line-end-inside : (s : List ℕ) (at : ℕ) → (lineEndAt s at ≡ 0 → ⊥) → at + lineEndAt s at ≤ length s
-unfolding lineEndAt
-line-end-inside s at n = go (ℕ-discrete (getD s at 0) 10)
-  where
-    go : Dec (getD s at 0 ≡ 10) → at + lineEndAt s at ≤ length s
-    go (yes e) = rw (eq-eqb (getD s at 0) 10 e) (omega (arith, inside s at (omega arith)))
-    go (no m) = absurd (n (rw (ne-eqb (getD s at 0) 10 m)))
 
 abbrev pub lineOf : Bool → List ℕ → List ℕ → ℕ → Listed
 lineOf last key s at = cond last (lastLineAt key s at) (lineAt key s at)

@@ -15,12 +15,12 @@ use Rattle.text.specs.declared.Number.the-variants.{Value, Missing}
 use Rattle.text.specs.declared.Pair.the-variants.{Two, Other}
 use Rattle.text.specs.Reading.{numberAt, startsWith, Listed, listed, unlisted, before, lineEndAt, numbersAt, closed, lineAt}
 use Rattle.text.specs.Shapes.{withTwo, pairOf}
+use Rattle.text.proofs.LineEnds.{end-other}
 use Rattle.text.proofs.Listing.{numbers-last, numbers-more, numbers-none}
 
 -- a comma is no line end
 comma-open : (s : List ℕ) (next : ℕ) → getD s next 0 ≡ 44 → lineEndAt s next ≡ 0
-unfolding lineEndAt
-comma-open s next q = rw (ne-eqb (getD s next 0) 10 (λ z. omega arith)) refl
+comma-open s next q = end-other s next (λ z. omega arith) (λ z. omega arith)
 
 module _ (s : List ℕ) where
   -- three numbers are not two

@@ -45,9 +45,9 @@ unfoldable pub before : ℕ → Listed → Listed
 before v (listed vs next) = listed (v ∷ vs) next
 before v unlisted = unlisted
 
--- the bytes of a line end that stands at a place: 1, or 0 where there is none
+-- the bytes of a line end that stands at a place: 1 of 10 alone, 2 of 13 followed by 10, 0 where there is none
 unfoldable pub lineEndAt : List ℕ → ℕ → ℕ
-lineEndAt s at = cond (eqb (getD s at 0) 10) 1 0
+lineEndAt s at = cond (eqb (getD s at 0) 10) 1 (cond (eqb (getD s at 0) 13 && eqb (getD s (at + 1) 0) 10) 2 0)
 
 -- after a number: a comma and more numbers, or nothing more
 unfoldable pub afterNumber : List ℕ → Number → (ℕ → Listed) → Listed

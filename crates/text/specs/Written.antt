@@ -17,7 +17,7 @@ separated [] = []
 separated (v ∷ []) = decimal v
 separated (v ∷ w ∷ vs) = decimal v ++ 44 ∷ separated (w ∷ vs)
 
--- Lines end in byte 10.
+-- Written text keeps the single 10.
 abbrev pub lineEnd : List ℕ
 lineEnd = 10 ∷ []
 

@@ -103,12 +103,19 @@ pub fn starts_with(s: &[u8], at: usize, key: &[u8]) -> bool
     same
 }
 
-// How many bytes a line end at a place has, 0 where there is none.
+// How many bytes a line end at a place has, 0 where there is none: byte 10 alone, or 13 followed by 10.
 pub fn line_end(s: &[u8], at: usize) -> usize
     ensures { λ r. ⌜ r ≡ lineEndAt (now (s .entry)) at ⌝ }
 {
-    if byte(s, at) == 10 {
+    let b = byte(s, at);
+    if b == 10 {
         return 1;
+    }
+    if b != 13 {
+        return 0;
+    }
+    if byte(s, at + 1) == 10 {
+        return 2;
     }
     0
 }

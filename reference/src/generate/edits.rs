@@ -106,7 +106,7 @@ pub fn edit_line(edit: Edit) -> Vec<u8> {
 
 /// A line that doesn't read as an edit.
 fn unreadable_line(random: &mut Random) -> Vec<u8> {
-    const LINES: [&[u8]; 20] = [
+    const LINES: [&[u8]; 22] = [
         b"\n",
         b" in=1\n",
         b"in=\n",
@@ -122,7 +122,9 @@ fn unreadable_line(random: &mut Random) -> Vec<u8> {
         b"out=-1\n",
         b"out=+1\n",
         b"off\n",
-        b"off=2\r\n",
+        b"off=2\r\r\n",
+        b"in=1\rin=1\n",
+        b"\rin=1\n",
         b"bars=2\n",
         b"on=1\n",
         b"in=1\0\n",

@@ -4,7 +4,7 @@ use super::edits::{any_edit, edit_line, edit_text};
 use super::random::Random;
 use super::records::{directed_torus, from_rings, refused_sheet, torus};
 use super::sheets::{extreme_sheets, grown, parallel, random_sheet};
-use super::texts::{damaged, sheet_text};
+use super::texts::{damaged, mixed_ends, sheet_text};
 use crate::load::load;
 use crate::plate::MAX_INPUT;
 use crate::sheet::{Sheet, MAX_EDGES, MAX_VERTICES};
@@ -37,7 +37,7 @@ impl Inputs {
         let count = self.random.below(count + 1);
         let mut text = sheet_text(&mut self.random, &sheet);
         text.extend(edit_text(&mut self.random, &sheet, count).0);
-        text
+        mixed_ends(&mut self.random, &text)
     }
 
     /// The text of a sheet that load refuses after the last line.
@@ -45,7 +45,8 @@ impl Inputs {
         let sheet = self.sheet();
         let refusal = self.random.between(5, 8) as u8;
         let refused = refused_sheet(&mut self.random, &sheet, refusal).unwrap_or(sheet);
-        sheet_text(&mut self.random, &refused)
+        let text = sheet_text(&mut self.random, &refused);
+        mixed_ends(&mut self.random, &text)
     }
 
     /// A good input made longer, up to the limit or one byte more.
@@ -60,6 +61,7 @@ impl Inputs {
             text.push(b'\n');
             last = next;
         }
+        text = mixed_ends(&mut self.random, &text);
         text.truncate(size);
         text
     }
@@ -103,13 +105,13 @@ pub fn inputs_of_every_size(random: &mut Random) -> Vec<Vec<u8>> {
         let sheet = grown(random, n, edges);
         let mut input = sheet_text(random, &sheet);
         input.extend(edit_text(random, &sheet, 4).0);
-        input
+        mixed_ends(random, &input)
     };
     counts.into_iter().map(&mut input_of).collect()
 }
 
-/// An input near another one: damaged, cut, its edit lines in another order, more edit lines, the
-/// sheet a second time, or longer up to the limit and two bytes over it.
+/// An input near another one: damaged, cut, its edit lines in another order, more edit lines, other
+/// line ends, the sheet a second time, or longer up to the limit and two bytes over it.
 pub fn variation(random: &mut Random, input: &[u8]) -> Vec<u8> {
     let (_, sheet, taken) = load(input, &Sheet::fresh());
     let (front, rest) = input.split_at(taken);
@@ -127,6 +129,7 @@ pub fn variation(random: &mut Random, input: &[u8]) -> Vec<u8> {
             [input, &more.collect::<Vec<u8>>()].concat()
         }
         9 => [input, front].concat(),
+        12 => mixed_ends(random, input),
         10 if random.one_in(8) => {
             let filler = random.pick(&[b"\n".as_slice(), b"out=1\n", b"x", b"in=0\n"]);
             padded(input, filler, MAX_INPUT - 1 + random.below(4))
@@ -158,7 +161,9 @@ pub fn special_inputs() -> Vec<Vec<u8>> {
     let mut inputs: Vec<Vec<u8>> = vec![Vec::new(), b"\n".to_vec(), b"\r\n".to_vec()];
     let sizes = [MAX_INPUT - 1, MAX_INPUT, MAX_INPUT + 1, MAX_INPUT + 2, 4 * MAX_INPUT];
     for size in sizes {
-        for filler in [b"\n".as_slice(), b"in=1\n", b"out=1\n", b"x", b"off=2\nin=1\n"] {
+        for filler in
+            [b"\n".as_slice(), b"in=1\n", b"out=1\n", b"x", b"off=2\nin=1\n", b"\r\n", b"\r"]
+        {
             inputs.push(padded(&fresh, filler, size));
             inputs.push(padded(&wide, filler, size));
             inputs.push(padded(b"", filler, size));
@@ -177,5 +182,10 @@ pub fn special_inputs() -> Vec<Vec<u8>> {
     let crowded = ["0,1"; 4000].join(",");
     inputs.push(format!("bars=2\nwires=2\nwire=0,1\nwire=0,1\naround={crowded}\n").into_bytes());
     inputs.extend(truncations(&fresh).map(Vec::from));
+    for end in ["\r\n", "\r", "\r\r\n", "\n\r", "\r \n"] {
+        let fresh = String::from_utf8_lossy(&fresh).replace('\n', end).into_bytes();
+        inputs.push([&fresh, format!("in=1{end}out=1{end}off=2").as_bytes()].concat());
+        inputs.extend(truncations(&fresh).map(Vec::from));
+    }
     inputs
 }

@@ -14,4 +14,4 @@ pub use inputs::{inputs_of_every_size, special_inputs, truncations, variation, I
 pub use random::Random;
 pub use records::{damaged_record, directed_torus, refused_sheet, torus, Records};
 pub use sheets::{extreme_sheets, grown, random_sheet, renumbered};
-pub use texts::{damaged, sheet_text};
+pub use texts::{damaged, mixed_ends, sheet_text};

@@ -31,16 +31,42 @@ fn ring(random: &mut Random, sheet: &Sheet, v: usize) -> Vec<usize> {
     wires
 }
 
+/// The text with some of its line ends, byte 10, turned into 13 10: none of them, all, or a part.
+pub fn mixed_ends(random: &mut Random, text: &[u8]) -> Vec<u8> {
+    let turned = random.below(5);
+    let mut mixed = Vec::with_capacity(2 * text.len());
+    for &byte in text {
+        if byte == b'\n' && random.below(4) < turned {
+            mixed.push(b'\r');
+        }
+        mixed.push(byte);
+    }
+    mixed
+}
+
 /// The text with one random damage.
 pub fn damaged(random: &mut Random, text: &[u8]) -> Vec<u8> {
     if text.is_empty() {
         return vec![random.word() as u8];
     }
-    match random.below(3) {
-        0 => damaged_byte(random, text),
-        1 => damaged_lines(random, text),
+    match random.below(7) {
+        0..=1 => damaged_byte(random, text),
+        2..=3 => damaged_lines(random, text),
+        4 => damaged_end(random, text),
         _ => damaged_number(random, text),
     }
+}
+
+/// A byte 10, or the end of the text, with a 13 at the wrong place, or made right.
+fn damaged_end(random: &mut Random, text: &[u8]) -> Vec<u8> {
+    const ENDS: [&[u8]; 7] = [b"\r", b"\r\r\n", b"\n\r", b"\r\n\r\n", b"\r \n", b"\n\n", b"\r\n"];
+    let places: Vec<usize> = (0..text.len()).filter(|&i| text[i] == b'\n').collect();
+    let end = random.pick(&ENDS);
+    if places.is_empty() || random.one_in(8) {
+        return [text, end].concat();
+    }
+    let at = random.pick(&places);
+    [&text[..at], end, &text[at + 1..]].concat()
 }
 
 /// A byte changed, gone or put in, or the end cut off.

@@ -1,6 +1,6 @@
 //! Read edit against the reference, on edit lines, damaged lines and any bytes.
 
-use reference::generate::{any_edit, damaged, edit_line, random_sheet, truncations, Random};
+use reference::generate::{any_edit, damaged, edit_line, mixed_ends, random_sheet, truncations, Random};
 use reference::Edit;
 
 /// The reference's answer in the form of the proved call.
@@ -29,6 +29,7 @@ fn read_edit_agrees_on_lines_and_damaged_lines() {
         if random.one_in(3) {
             text.extend(edit_line(any_edit(random, &sheet)));
         }
+        text = mixed_ends(random, &text);
         if random.one_in(4) {
             text.pop();
         }
@@ -42,9 +43,10 @@ fn read_edit_agrees_on_lines_and_damaged_lines() {
 
 #[test]
 fn read_edit_agrees_on_front_parts_and_special_lines() {
-    let lines: [&[u8]; 14] = [
+    let lines: [&[u8]; 21] = [
         b"", b"\n", b"in=1", b"in=1\n", b"in=01\n", b"in=1,\n", b"in=1000", b"run=1,2,3,4", b"run=1,2,3,4,5\n", b"out=999\nin=1\n",
-        b"off=0\r\n", b"bars=2\n", b"\xff\x80\n", b"In=1\n",
+        b"off=0\r\n", b"bars=2\n", b"\xff\x80\n", b"In=1\n", b"in=1\r\nin=1\r", b"run=1,2,3,4\r\n\r", b"out=1\r\r\n", b"off=0\n\r\n", b"\r\n",
+        b"\rin=1\n", b"in=1\rin=1\n",
     ];
     for line in lines {
         for text in truncations(line) {
@@ -52,6 +54,8 @@ fn read_edit_agrees_on_front_parts_and_special_lines() {
         }
     }
     assert_eq!(proved::read_edit(b""), (5, [0; 4], 0), "of no bytes it takes none and refuses");
+    assert_eq!(proved::read_edit(b"in=7\r\nin=8"), (0, [7, 0, 0, 0], 6), "the 13 is taken too");
+    assert_eq!(proved::read_edit(b"in=7\r"), (5, [0; 4], 5), "a last line that ends in 13 is refused");
 }
 
 #[test]

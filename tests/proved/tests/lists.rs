@@ -3,7 +3,7 @@
 use reference::generate::edits::{any_edit, likely_edit, refused_edit};
 use reference::generate::records::Records;
 use reference::generate::sheets::{extreme_sheets, random_sheet};
-use reference::generate::texts::{damaged, sheet_text};
+use reference::generate::texts::{damaged, mixed_ends, sheet_text};
 use reference::generate::Random;
 use reference::{Edit, Sheet};
 
@@ -38,6 +38,7 @@ fn lists_of_loads_and_edits_agree() {
                 0 => {
                     let loaded = random_sheet(random);
                     let text = sheet_text(random, &loaded);
+                    let text = mixed_ends(random, &text);
                     let text = if random.one_in(2) { damaged(random, &text) } else { text };
                     let (answer, expected, taken) = reference::load(&text, &sheet);
                     let ours = proved::load(&text, &sheet);

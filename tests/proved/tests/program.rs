@@ -1,7 +1,7 @@
 //! The program `plate` itself, run as a process, against the outputs in examples/ and against the reference, byte for
 //! byte. The program is target/bin/plate of the repository, or the file that the environment names in PLATE.
 
-use reference::generate::{inputs_of_every_size, special_inputs, variation, Inputs, Random};
+use reference::generate::{inputs_of_every_size, mixed_ends, special_inputs, variation, Inputs, Random};
 use std::fs::{self, File};
 use std::io::{ErrorKind, Write};
 use std::path::{Path, PathBuf};
@@ -59,12 +59,27 @@ fn examples() -> Vec<(PathBuf, Vec<u8>, Vec<u8>)> {
 #[test]
 fn examples_give_their_outputs() {
     let examples = examples();
-    assert_eq!(examples.len(), 13);
+    assert_eq!(examples.len(), 14);
     for (path, input, expected) in examples {
         let shown = |bytes: &[u8]| String::from_utf8_lossy(bytes).into_owned();
         assert_eq!(shown(&run(&input)), shown(&expected), "{}", path.display());
         let file = start(Stdio::from(File::open(&path).expect("the input")));
         assert_eq!(printed(file.wait_with_output().expect("it ends"), &input), expected, "{} as a file", path.display());
+    }
+}
+
+#[test]
+fn examples_give_their_outputs_in_both_line_ends() {
+    let random = &mut Random::new(66);
+    for (path, input, expected) in examples() {
+        let plain: Vec<u8> = input.iter().copied().filter(|&byte| byte != 13).collect();
+        let ended: Vec<u8> = plain.iter().flat_map(|&byte| [13, byte].into_iter().skip(usize::from(byte != 10))).collect();
+        assert!(ended.len() > plain.len() && !ended.windows(2).any(|pair| pair[0] != 13 && pair[1] == 10));
+        assert_eq!(run(&ended), expected, "{} with 13 10", path.display());
+        for _ in 0..8 {
+            let mixed = mixed_ends(random, &plain);
+            assert_eq!(run(&mixed), expected, "{} with {:?}", path.display(), String::from_utf8_lossy(&mixed));
+        }
     }
 }
 

@@ -1,7 +1,7 @@
 //! Lists of calls as numbers, made by one call of the proved library, compared with the reference: every answer, the
 //! answers that are to stay as they are, and the whole drawing record afterwards.
 
-use reference::generate::{any_edit, any_number, damaged, likely_edit, random_sheet, refused_edit, refused_sheet, sheet_text, Random};
+use reference::generate::{any_edit, any_number, damaged, likely_edit, mixed_ends, random_sheet, refused_edit, refused_sheet, sheet_text, Random};
 use reference::{Edit, Sheet};
 
 /// A call: its kind (0 in, 1 run, 2 out, 3 off, 4 load; any other is refused 10) and four numbers.
@@ -39,6 +39,7 @@ fn texts(random: &mut Random) -> (Vec<u8>, Vec<usize>) {
             sheet = refused_sheet(random, &sheet, refusal).unwrap_or(sheet);
         }
         let piece = sheet_text(random, &sheet);
+        let piece = mixed_ends(random, &piece);
         let piece = match random.below(12) {
             0 => random.pick(&[b"bars=129\n", b"bars=001\n"]).to_vec(),
             1..=4 => damaged(random, &piece),

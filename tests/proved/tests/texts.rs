@@ -2,7 +2,7 @@
 //! byte for byte, what lies past the text included.
 
 use reference::generate::{
-    damaged, damaged_record, extreme_sheets, random_sheet, sheet_text, sheets, special_inputs, truncations, Inputs, Random, Records,
+    damaged, damaged_record, extreme_sheets, mixed_ends, random_sheet, sheet_text, sheets, special_inputs, truncations, Inputs, Random, Records,
 };
 use reference::Sheet;
 
@@ -30,6 +30,7 @@ fn load_agrees_on_fifty_thousand_texts() {
     for _ in 0..5_000 {
         let sheet = random_sheet(random);
         let text = sheet_text(random, &sheet);
+        let text = mixed_ends(random, &text);
         numbers[same_load(&text, &presents[0]) as usize] += 1;
         for _ in 0..8 {
             let present = random.pick(&presents);
@@ -112,5 +113,28 @@ fn a_written_sheet_reads_back() {
         assert_eq!(number, 0);
         assert!(proved::load(&buffer[..count], &Sheet::fresh()) == (0, sheet, count));
         assert!(proved::load(&buffer, &Sheet::fresh()) == (0, sheet, count), "whatever follows");
+        assert!(!buffer[..count].contains(&13), "written text keeps the single 10");
+        let mixed = mixed_ends(random, &buffer[..count]);
+        assert!(proved::load(&mixed, &Sheet::fresh()) == (0, sheet, mixed.len()), "with both line ends");
     }
+}
+
+#[test]
+fn load_agrees_with_a_13_at_every_place() {
+    let random = &mut Random::new(37);
+    let present = sheets::path(3);
+    let (mut accepted, mut refused) = (0, 0);
+    for sheet in [Sheet::fresh(), sheets::path(5), sheets::parallel(7)] {
+        let text = sheet_text(random, &sheet);
+        for text in [mixed_ends(random, &text), text] {
+            for at in 0..=text.len() {
+                for stray in [b"\r".as_slice(), b"\r\r", b"\r\n", b"\n\r"] {
+                    let number = same_load(&[&text[..at], stray, &text[at..]].concat(), &present);
+                    accepted += i32::from(number == 0);
+                    refused += i32::from(number == 1);
+                }
+            }
+        }
+    }
+    assert!(accepted > 30 && refused > 2_000, "{accepted} {refused}");
 }

@@ -2,7 +2,7 @@ use mathlib.Core.Path.{_≡_, sym, _∙_}
 use native.Mathlib.Omega.{arith}
 use Rattle.text.specs.Reading.{numberAt}
 use Rattle.text.specs.declared.Number.the-variants.{Value}
-use Rattle.text.proofs.Closing.{line-end-inside}
+use Rattle.text.proofs.LineEnds.{line-end-inside}
 use Rattle.text.proofs.Pairs.{second-none, second-open, second-ended}
 use borrow.Author.Needs.{needs}
 use Rattle.text.proofs.second.Statement.{statement}

@@ -4,7 +4,8 @@ use native.Mathlib.Omega.{arith}
 use borrow.Author.Tests.{not-true, not-false}
 use borrow.Author.Needs.{needs}
 use lib.ListN.{length-drop}
-use Rattle.text.proofs.Closing.{starts-length, line-end-inside, no-key, no-numbers, not-ended, text-over, ended}
+use Rattle.text.proofs.LineEnds.{line-end-inside}
+use Rattle.text.proofs.Closing.{starts-length, no-key, no-numbers, not-ended, text-over, ended}
 use Rattle.text.proofs.shape.Statement.{statement}
 use Rattle.text.proofs.shape.Tie as tie
 

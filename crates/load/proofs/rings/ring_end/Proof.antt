@@ -1,6 +1,6 @@
 use mathlib.Core.Path.{_∙_}
 use native.Mathlib.Omega.{arith}
-use Rattle.text.proofs.Closing.{line-end-inside}
+use Rattle.text.proofs.LineEnds.{line-end-inside}
 use Rattle.load.proofs.Walking.{end-open, end-size, end-good}
 use borrow.Author.Needs.{needs}
 use Rattle.load.proofs.rings.ring_end.Statement.{statement}
