@@ -1,4 +1,4 @@
--- An edit line reads as one of four edits: `in=k`, `run=a,p,b,q`, `out=k`, `off=v`, with load's numbers; a last line may lack its byte 10.
+-- An edit line reads as one of four edits: `in=k`, `run=a,p,b,q`, `out=k`, `off=v`, with load's numbers and line ends; a last line may lack its end.
 use Prim.Native.Nat.{ℕ, suc}
 use mathlib.Core.Bool.{cond}
 use mathlib.Core.List.{List, [], _∷_}

@@ -1,11 +1,10 @@
 -- Read edit answers as laid down, and in no other way. Assumes nothing.
-use Prim.Native.Nat.{ℕ, zero, _<_, _+_}
-use mathlib.Core.Path.{_≡_, refl, sym, _∙_, ap, subst}
+use Prim.Native.Nat.{ℕ, _<_}
+use mathlib.Core.Path.{_≡_, refl, sym, _∙_, ap}
 use mathlib.Core.Logic.{_≢_, _⊎_, inl, inr}
 use mathlib.Core.List.{List, [], _∷_, _++_}
-use native.Mathlib.Nat.{zero-add}
 use native.Mathlib.Omega.{arith}
-use lib.ListN.{getD, length, length-append, List·getD-append}
+use lib.ListN.{getD, length}
 use Rattle.text.specs.Written.{separated}
 use Rattle.layout.specs.Layout.{Stands, LastLineAt}
 use Rattle.layout.specs.Layout.LastLineAt.{whole, bare}

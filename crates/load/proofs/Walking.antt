@@ -1,16 +1,17 @@
 -- The numbers of an `around=` line, read one after the other, each checked and linked to the one before. Assumes nothing.
-use Prim.Native.Nat.{ℕ, _+_, _*_, _≤_, _<_}
+use Prim.Native.Nat.{ℕ, _+_, _-_, _*_, _≤_, _<_}
 use mathlib.Core.Path.{_≡_, refl, sym, ap, _∙_}
-use mathlib.Core.Logic.{by-cases}
+use mathlib.Core.Logic.{_≢_, by-cases}
 use mathlib.Core.Bool.{Bool, true, false, not, and-eq-true-iff, and-false, false≢true}
 use mathlib.Core.List.{List, [], _∷_}
 use native.Mathlib.Decide.{ℕ-discrete, decLt}
 use native.Mathlib.Omega.{arith}
-use borrow.Author.Tests.{ltb-true, lt-ltb, le-ltb, eq-eqb, ne-eqb}
+use borrow.Author.Tests.{ltb-true, lt-ltb, le-ltb, eq-eqb, ne-eqb, eqb-true}
 use lib.Dec.{eqb, ltb}
 use lib.ListN.{getD, set, length, drop, length-set, length-drop}
 use lib.Seq.{getD-set-same, getD-set-other, set-out}
 use Rattle.clauses.specs.Darts.{touchesOf, dartOf}
+use Rattle.counting.specs.Counts.{bit}
 use Rattle.counting.proofs.Iterate.{by-bool}
 use Rattle.text.specs.declared.Number.{Number}
 use Rattle.text.specs.declared.Number.the-variants.{Value, Missing}
@@ -27,7 +28,7 @@ use Rattle.load.specs.declared.lines.Step.the-variants.{Next, Refused}
 use Rattle.load.specs.declared.rings.Entry.{Entry}
 use Rattle.load.specs.declared.rings.Entry.the-variants.{Edge, Unfit, Absent}
 use Rattle.text.specs.Keys.{aroundKey}
-use Rattle.load.specs.Contracts.{fitsOf, dartIf, edgeOf, marksOf, firstOf, linkOf, restAt, isListed, refusalOf, fitFrom, linkedFrom, linked, Ringed, unringed, ringedBy, ringEnd, linkedOn, ringFrom, RingRead}
+use Rattle.load.specs.Contracts.{Apart, fitsOf, dartIf, edgeOf, marksOf, firstOf, linkOf, restAt, isListed, refusalOf, fitFrom, linkedFrom, linked, Ringed, unringed, ringedBy, ringEnd, linkedOn, ringFrom, RingRead}
 
 never : {A : Type 0} → _≡_ {A = ℕ} 0 1 → A
 never z = absurd (omega arith)
@@ -133,18 +134,25 @@ module _ (m : ℕ) (tails heads : List ℕ) (v : ℕ) where
       unfolding dartIf fitsOf
       dart-seen e = rw (lt-ltb w m h, eq-eqb (getD seen w 0) (v + 1) e, and-false (touchesOf tails heads w v)) refl
 
-      module _ (n : getD seen w 0 ≡ v + 1 → ⊥) where
-        pub dart-tail : getD tails w 0 ≡ v → 2 * w ≡ dartIf m tails heads v seen w
+      -- whether its tail and its head stand there, as numbers
+      module _ (n : getD seen w 0 ≡ v + 1 → ⊥) (t e : ℕ) (et : t ≡ bit (eqb (getD tails w 0) v)) (ee : e ≡ bit (eqb (getD heads w 0) v)) where
+        pub dart-there : t + e ≡ 1 → 2 * w + 1 - t ≡ dartIf m tails heads v seen w
         unfolding dartIf fitsOf touchesOf dartOf
-        dart-tail t = rw (lt-ltb w m h, ne-eqb (getD seen w 0) (v + 1) n, eq-eqb (getD tails w 0) v t) refl
+        dart-there s = by-bool (eqb (getD tails w 0) v)
+            (λ a. rw (lt-ltb w m h, ne-eqb (getD seen w 0) (v + 1) n, et, a) (omega arith))
+            (λ a. by-bool (eqb (getD heads w 0) v)
+            (λ b. rw (lt-ltb w m h, ne-eqb (getD seen w 0) (v + 1) n, et, a, b) (omega arith))
+            (λ b. let z : t ≡ 0 = et ∙ ap bit a in let y : e ≡ 0 = ee ∙ ap bit b in absurd (omega arith)))
 
-        pub dart-head : (getD tails w 0 ≡ v → ⊥) → getD heads w 0 ≡ v → 2 * w + 1 ≡ dartIf m tails heads v seen w
-        unfolding dartIf fitsOf touchesOf dartOf
-        dart-head t e = rw (lt-ltb w m h, ne-eqb (getD seen w 0) (v + 1) n, ne-eqb (getD tails w 0) v t, eq-eqb (getD heads w 0) v e) refl
-
-        pub dart-none : (getD tails w 0 ≡ v → ⊥) → (getD heads w 0 ≡ v → ⊥) → 512 ≡ dartIf m tails heads v seen w
+        pub dart-none : Apart m tails heads → t + e ≢ 1 → 512 ≡ dartIf m tails heads v seen w
         unfolding dartIf fitsOf touchesOf
-        dart-none t e = rw (lt-ltb w m h, ne-eqb (getD seen w 0) (v + 1) n, ne-eqb (getD tails w 0) v t, ne-eqb (getD heads w 0) v e) refl
+        dart-none f s = by-bool (eqb (getD tails w 0) v)
+            (λ a. by-bool (eqb (getD heads w 0) v)
+            (λ b. absurd (f w h (eqb-true (getD tails w 0) v a ∙ sym (eqb-true (getD heads w 0) v b))))
+            (λ b. let z : t ≡ 1 = et ∙ ap bit a in let y : e ≡ 0 = ee ∙ ap bit b in absurd (s (omega arith))))
+            (λ a. by-bool (eqb (getD heads w 0) v)
+            (λ b. let z : t ≡ 0 = et ∙ ap bit a in let y : e ≡ 1 = ee ∙ ap bit b in absurd (s (omega arith)))
+            (λ b. rw (lt-ltb w m h, ne-eqb (getD seen w 0) (v + 1) n, a, b) refl))
 
   fits-below : (seen : List ℕ) (w : ℕ) → fitsOf m tails heads v seen w ≡ true → w < m
   unfolding fitsOf

@@ -43,6 +43,10 @@ pub record Joint (n : ℕ) (tails heads : List ℕ) (k : ℕ) : Type 0 where
   pub head-in : getD heads k 0 < n
   pub apart : getD tails k 0 ≢ getD heads k 0
 
+-- no edge has both ends at one vertex
+abbrev pub Apart : ℕ → List ℕ → List ℕ → Type 0
+Apart m tails heads = (k : ℕ) → k < m → getD tails k 0 ≢ getD heads k 0
+
 -- what load goes on to
 unfoldable pub afterEdges : List ℕ → ℕ → ℕ → List ℕ → List ℕ → Step → Parsed
 afterEdges text n m tails heads (Next at) = ringLines n text (sheetOf n m tails heads noNexts) 0 at

@@ -31,13 +31,31 @@ fn refuse(answer: Answer, present: Sheet) -> Loaded
 }
 
 // After the last line: the rules on the whole sheet.
-fn load_judged(s: Sheet, next: usize, present: Sheet) -> Loaded
-    ensures { λ r. ⌜ r ≡ loaded present (judged s next) ⌝ }
+fn load_judged(
+    n: usize,
+    m: usize,
+    tails: &[u16; 256],
+    heads: &[u16; 256],
+    nexts: &[u16; 512],
+    next: usize,
+    present: Sheet,
+) -> Loaded
+    ensures { λ r. ⌜ r ≡ loaded present (judged (sheetOf n m (now (tails .entry)) (now (heads .entry)) (now (nexts .entry))) next) ⌝ }
 {
-    let answer = sheet::judge(s);
+    let answer = sheet::judge(n, m, tails, heads, nexts);
     if !answers::is_accepted(answer) {
         return refuse(answer, present);
     }
+    let t = *tails;
+    let h = *heads;
+    let x = *nexts;
+    let s = Sheet {
+        vertices: n,
+        edges: m,
+        tails: t,
+        heads: h,
+        nexts: x,
+    };
     Loaded {
         answer: Answer::Accepted,
         sheet: s,
@@ -51,27 +69,18 @@ fn load_rings(
     at: usize,
     n: usize,
     m: usize,
-    tails: [u16; 256],
-    heads: [u16; 256],
+    tails: &[u16; 256],
+    heads: &[u16; 256],
     present: Sheet,
 ) -> Loaded
-    requires { ⌜ (n ≤ 128) × (m ≤ 256) × ((k : ℕ) → k < m → Joint n tails heads k) ⌝ }
-    ensures { λ r. ⌜ r ≡ loaded present (ringLines n (now (text .entry)) (sheetOf n m tails heads noNexts) 0 at) ⌝ }
+    requires { ⌜ (n ≤ 128) × (m ≤ 256) × ((k : ℕ) → k < m → Joint n (now tails) (now heads) k) ⌝ }
+    ensures { λ r. ⌜ r ≡ loaded present (ringLines n (now (text .entry)) (sheetOf n m (now (tails .entry)) (now (heads .entry)) noNexts) 0 at) ⌝ }
 {
     let mut nexts = [0u16; 512];
-    let step = rings::ring_lines(text, at, n, m, &tails, &heads, &mut nexts);
+    let step = rings::ring_lines(text, at, n, m, tails, heads, &mut nexts);
     match step {
         Step::Refused(answer) => refuse(answer, present),
-        Step::Next(next) => {
-            let s = Sheet {
-                vertices: n,
-                edges: m,
-                tails,
-                heads,
-                nexts,
-            };
-            load_judged(s, next, present)
-        }
+        Step::Next(next) => load_judged(n, m, tails, heads, &nexts, next, present),
     }
 }
 
@@ -85,7 +94,7 @@ fn load_edges(text: &[u8], at: usize, n: usize, m: usize, present: Sheet) -> Loa
     let step = lines::edge_lines(text, at, n, m, &mut tails, &mut heads);
     match step {
         Step::Refused(answer) => refuse(answer, present),
-        Step::Next(next) => load_rings(text, next, n, m, tails, heads, present),
+        Step::Next(next) => load_rings(text, next, n, m, &tails, &heads, present),
     }
 }
 

@@ -6,9 +6,10 @@ ghost use lib.ListN.{getD};
 ghost use Rattle.clauses.specs.Darts.{touchesOf};
 ghost use Rattle.counting.specs.Counts.{count};
 ghost use Rattle.text.specs.Reading.{numberAt, listed, closed};
-ghost use Rattle.load.specs.Contracts.{Joint, dartIf, edgeOf, marksOf, firstOf, linkOf, isListed, refusalOf, restAt, ringedBy, ringEnd, RingRead, RingsRead};
+ghost use Rattle.load.specs.Contracts.{Joint, Apart, dartIf, edgeOf, marksOf, firstOf, linkOf, isListed, refusalOf, restAt, ringedBy, ringEnd, RingRead, RingsRead};
 use crate::lines::Step;
 use answers::Answer;
+use counting::bit;
 use counting::wide;
 use text::Number;
 
@@ -38,6 +39,7 @@ fn degrees(m: usize, tails: &[u16; 256], heads: &[u16; 256]) -> [u16; 128]
 }
 
 // The dart of edge w at vertex v; 512 where w may not stand on v's line: it has no end there, or stood on the line before.
+// Which of its two ends stands there takes no branch, since nothing foretells it.
 fn dart_at(
     w: usize,
     v: usize,
@@ -46,7 +48,7 @@ fn dart_at(
     heads: &[u16; 256],
     seen: &[u16; 256],
 ) -> usize
-    requires { ⌜ (m ≤ 256) × (v < 128) ⌝ }
+    requires { ⌜ (m ≤ 256) × (v < 128) × Apart m (now tails) (now heads) ⌝ }
     ensures { λ r. ⌜ r ≡ dartIf m (now (tails .entry)) (now (heads .entry)) v (now (seen .entry)) w ⌝ }
 {
     if m <= w {
@@ -55,13 +57,12 @@ fn dart_at(
     if wide(seen[w]) == v + 1 {
         return 512;
     }
-    if wide(tails[w]) == v {
-        return 2 * w;
+    let tail = bit(wide(tails[w]) == v);
+    let head = bit(wide(heads[w]) == v);
+    if tail + head != 1 {
+        return 512;
     }
-    if wide(heads[w]) == v {
-        return 2 * w + 1;
-    }
-    512
+    2 * w + 1 - tail
 }
 
 // The edge whose number stands at a place of v's line, marked as seen on it if it may stand there.
@@ -74,7 +75,7 @@ fn edge_at(
     heads: &[u16; 256],
     seen: &mut [u16; 256],
 ) -> Entry
-    requires { ⌜ (m ≤ 256) × (v < 128) ⌝ }
+    requires { ⌜ (m ≤ 256) × (v < 128) × Apart m (now tails) (now heads) ⌝ }
     ensures { λ r. ⌜ (r ≡ edgeOf m (now (tails .entry)) (now (heads .entry)) v (now (seen .entry)) (numberAt (now (text .entry)) at))
         × (now (seen .exit) ≡ marksOf m (now (tails .entry)) (now (heads .entry)) v (now (seen .entry)) (numberAt (now (text .entry)) at)) ⌝ }
 {
@@ -165,7 +166,7 @@ fn ring_line(
     seen: &mut [u16; 256],
     nexts: &mut [u16; 512],
 ) -> Step
-    requires { ⌜ (m ≤ 256) × (v < 128) ⌝ }
+    requires { ⌜ (m ≤ 256) × (v < 128) × Apart m (now tails) (now heads) ⌝ }
     ensures { λ r. ⌜ RingRead (now (text .entry)) start degree m (now (tails .entry)) (now (heads .entry)) v (now (seen .entry)) (now (nexts .entry)) (now (seen .exit)) (now (nexts .exit)) r ⌝ }
 {
     let key = b"around=";

@@ -154,16 +154,17 @@ pub fn examine(s: Sheet) -> Findings
     faced(Answer::NotSound, n, m, &nexts, rows)
 }
 
-// What load refuses after its last line, of a sheet that meets the first four clauses: 5, 6, 7, 8 in order.
-pub fn judge(s: Sheet) -> Answer
-    ensures { λ r. ⌜ r ≡ judge s ⌝ }
+// What load refuses after its last line, of the parts of a sheet that meets the first four clauses: 5, 6, 7, 8 in order.
+pub fn judge(
+    n: usize,
+    m: usize,
+    tails: &[u16; 256],
+    heads: &[u16; 256],
+    nexts: &[u16; 512],
+) -> Answer
+    ensures { λ r. ⌜ r ≡ judge (sheetOf n m (now (tails .entry)) (now (heads .entry)) (now (nexts .entry))) ⌝ }
 {
-    let n = s.vertices;
-    let m = s.edges;
-    let tails = s.tails;
-    let heads = s.heads;
-    let nexts = s.nexts;
-    let found = judged(n, m, &tails, &heads, &nexts);
+    let found = judged(n, m, tails, heads, nexts);
     found.answer
 }
 

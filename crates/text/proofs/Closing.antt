@@ -6,7 +6,7 @@ use mathlib.Core.List.{List, [], _∷_}
 use native.Mathlib.Omega.{arith}
 use borrow.Author.Tests.{le-leb, lt-leb, eq-eqb, ne-eqb}
 use lib.Dec.{eqb}
-use lib.ListN.{getD, length, drop}
+use lib.ListN.{length, drop}
 use Rattle.text.specs.declared.Numbers.{Numbers}
 use Rattle.text.specs.Reading.{startsWith, Listed, listed, unlisted, lineEndAt, numbersAt, closed, lastClosed, lineAt, lastLineAt, numbersOf}
 use Rattle.text.proofs.LineEnds.{line-end-inside}

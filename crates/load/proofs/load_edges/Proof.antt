@@ -19,7 +19,7 @@ enum-known-step-2 : tie.Need-enum-known-step-2
 enum-known-step-2 c = search needs
 
 load-rings-requires : tie.Need-load-rings-requires
-load-rings-requires c κs = (search needs, search needs, c .before .before .before .edge-lines .ensures .joined _ (c .before .step2 .given .1))
+load-rings-requires c κs = (search needs, search needs, c .before .before .before .before .before .edge-lines .ensures .joined _ (c .before .before .before .step2 .given .1))
 
 returns : tie.Need-returns
 returns c =
@@ -30,7 +30,7 @@ returns c =
 
 returns-2 : tie.Need-returns-2
 returns-2 c =
-    let step = c .before .before in
+    let step = c .before .before .before .before in
     let lines = step .before .before in
     let a = lines .before .before .before .before .args in
     c .load-rings .ensures ∙ ap (loaded _) (after-edges-next _ _ _ _ _ _ _ (lines .edge-lines .ensures .rest) _ (step .step2 .given .1) ∙ ap (λ (s : Sheet). edgeLines (a .m) (a .text .now) s 0 (a .at)) (no-edges (a .n) (a .m)))

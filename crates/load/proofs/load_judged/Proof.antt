@@ -19,12 +19,13 @@ returns : tie.Need-returns
 returns c =
     let judge = c .before .before .before in
     c .refuse .ensures
-    ∙ ap (loaded _) (judged-refused (judge .before .args .s) (judge .before .args .next) _ (judge .judge .ensures) (sym (c .before .before .is-accepted .ensures) ∙ not-true _ (c .before .if1 .taken)))
+    ∙ ap (loaded _) (judged-refused _ _ _ (judge .judge .ensures) (sym (c .before .before .is-accepted .ensures) ∙ not-true _ (c .before .if1 .taken)))
 
 returns-2 : tie.Need-returns-2
 returns-2 c =
-    let judge = c .before .before in
-    judged-accepted (judge .before .args .s) (judge .before .args .next) _ (judge .judge .ensures) (sym (c .before .is-accepted .ensures) ∙ not-false _ (c .if1 .left)) (judge .before .args .present)
+    let else = c .before .before .before in
+    let judge = else .before .before in
+    judged-accepted _ _ _ (judge .judge .ensures) (sym (else .before .is-accepted .ensures) ∙ not-false _ (else .if1 .left)) _
 
 pub load-judged-spec : {M : Type 1} → statement M
 load-judged-spec =

@@ -31,7 +31,7 @@ returns c =
 returns-2 : tie.Need-returns-2
 unfolding noNexts
 returns-2 c =
-    let step = c .before .before in
+    let step = c .before .before .before in
     let lines = step .before .before in
     c .load-judged .ensures ∙ ap (loaded _) (after-rings-next _ _ _ _ _ _ _ (lines .ring-lines .ensures) _ (step .step2 .given .1))
 

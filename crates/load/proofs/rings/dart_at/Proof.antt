@@ -1,5 +1,8 @@
-use mathlib.Core.Path.{sym, _∙_}
-use Rattle.load.proofs.Walking.{dart-past, dart-seen, dart-tail, dart-head, dart-none}
+use mathlib.Core.Path.{sym, ap, _∙_}
+use Prim.Native.Nat.{ℕ}
+use lib.Dec.{eqb}
+use Rattle.counting.specs.Counts.{bit}
+use Rattle.load.proofs.Walking.{dart-past, dart-seen, dart-there, dart-none}
 use borrow.Author.Needs.{needs}
 use Rattle.load.proofs.rings.dart_at.Statement.{statement}
 use Rattle.load.proofs.rings.dart_at.Tie as tie
@@ -34,15 +37,8 @@ element-copy-out-wide-2 c = search needs
 wide-requires-2 : tie.Need-wide-requires-2
 wide-requires-2 c κs = search needs
 
-mul-result : tie.Need-mul-result
-mul-result c = search needs
-
-returns-3 : tie.Need-returns-3
-returns-3 c =
-    let p2 = c .before .before .before in
-    let p1 = p2 .before .before .before in
-    let a = p1 .before .args in
-    dart-tail (a .m) (a .tails .now) (a .heads .now) (a .v) (a .seen .now) (a .w) (p1 .if1 .left) (λ q. p2 .if2 .left (p2 .before .wide .ensures .0 ∙ q)) (sym (c .before .wide2 .ensures .0) ∙ c .if3 .taken)
+bit-requires : tie.Need-bit-requires
+bit-requires c κs = search needs
 
 mul-wide-3 : tie.Need-mul-wide-3
 mul-wide-3 c = search needs
@@ -53,27 +49,44 @@ element-copy-out-wide-3 c = search needs
 wide-requires-3 : tie.Need-wide-requires-3
 wide-requires-3 c κs = search needs
 
-mul-result-2 : tie.Need-mul-result-2
-mul-result-2 c = search needs
+bit-requires-2 : tie.Need-bit-requires-2
+bit-requires-2 c κs = search needs
+
+add-if3 : tie.Need-add-if3
+add-if3 c = search needs
+
+returns-3 : tie.Need-returns-3
+returns-3 c =
+    let b2 = c .before in
+    let w3 = b2 .before in
+    let b1 = w3 .before .before in
+    let w2 = b1 .before in
+    let p2 = w2 .before .before in
+    let p1 = p2 .before .before .before in
+    let a = p1 .before .args in
+    dart-none (a .m) (a .tails .now) (a .heads .now) (a .v) (a .seen .now) (a .w) (p1 .if1 .left) (λ q. p2 .if2 .left (p2 .before .wide .ensures .0 ∙ q)) _ _
+    (b1 .bit .ensures .0 ∙ ap (λ (x : ℕ). bit (eqb x (a .v))) (w2 .wide2 .ensures .0)) (b2 .bit2 .ensures .0 ∙ ap (λ (x : ℕ). bit (eqb x (a .v))) (w3 .wide3 .ensures .0)) (p1 .before .pre .2) (c .if3 .taken)
+
+mul-result : tie.Need-mul-result
+mul-result c = search needs
 
 add-result : tie.Need-add-result
 add-result c = search needs
 
+sub-result : tie.Need-sub-result
+sub-result c = search needs
+
 returns-4 : tie.Need-returns-4
 returns-4 c =
-    let p3 = c .before .before .before in
-    let p2 = p3 .before .before .before in
+    let b2 = c .before in
+    let w3 = b2 .before in
+    let b1 = w3 .before .before in
+    let w2 = b1 .before in
+    let p2 = w2 .before .before in
     let p1 = p2 .before .before .before in
     let a = p1 .before .args in
-    dart-head (a .m) (a .tails .now) (a .heads .now) (a .v) (a .seen .now) (a .w) (p1 .if1 .left) (λ q. p2 .if2 .left (p2 .before .wide .ensures .0 ∙ q)) (λ q. p3 .if3 .left (p3 .before .wide2 .ensures .0 ∙ q)) (sym (c .before .wide3 .ensures .0) ∙ c .if4 .taken)
-
-returns-5 : tie.Need-returns-5
-returns-5 c =
-    let p3 = c .before .before .before in
-    let p2 = p3 .before .before .before in
-    let p1 = p2 .before .before .before in
-    let a = p1 .before .args in
-    dart-none (a .m) (a .tails .now) (a .heads .now) (a .v) (a .seen .now) (a .w) (p1 .if1 .left) (λ q. p2 .if2 .left (p2 .before .wide .ensures .0 ∙ q)) (λ q. p3 .if3 .left (p3 .before .wide2 .ensures .0 ∙ q)) (λ q. c .if4 .left (c .before .wide3 .ensures .0 ∙ q))
+    dart-there (a .m) (a .tails .now) (a .heads .now) (a .v) (a .seen .now) (a .w) (p1 .if1 .left) (λ q. p2 .if2 .left (p2 .before .wide .ensures .0 ∙ q)) _ _
+    (b1 .bit .ensures .0 ∙ ap (λ (x : ℕ). bit (eqb x (a .v))) (w2 .wide2 .ensures .0)) (b2 .bit2 .ensures .0 ∙ ap (λ (x : ℕ). bit (eqb x (a .v))) (w3 .wide3 .ensures .0)) (c .if3 .left)
 
 pub dart-at-spec : {M : Type 1} → statement M
 dart-at-spec =
@@ -88,12 +101,14 @@ dart-at-spec =
     mul-wide-2
     element-copy-out-wide-2
     wide-requires-2
-    mul-result
-    returns-3
+    bit-requires
     mul-wide-3
     element-copy-out-wide-3
     wide-requires-3
-    mul-result-2
+    bit-requires-2
+    add-if3
+    returns-3
+    mul-result
     add-result
-    returns-4
-    returns-5)
+    sub-result
+    returns-4)
