@@ -58,14 +58,13 @@ plates =
     ∷ plate "bars=129|" "refused=2|"
     ∷ plate "bars=1|" "refused=2|"
     ∷ plate "bars=02|" "refused=1|"
-    -- Line ends from the packaging line: P7 with lines ended in 13 10, and in both ways
-    ∷ plate "bars=2^|wires=2^|wire=0,1^|wire=0,1^|around=0,1^|around=0,1^|in=1^|run=0,1,2,2^|out=2^|" "refused=15|rows=3|columns=3|bar=0,0,2|bar=2,0,2|bar=1,0,1|wire=2,0,2|wire=0,0,1|wire=0,1,2|wire=1,0,1|"
-    ∷ plate "bars=2^|wires=2|wire=0,1|wire=0,1^|around=0,1|around=0,1^|in=1|run=0,1,2,2^|out=2|" "refused=15|rows=3|columns=3|bar=0,0,2|bar=2,0,2|bar=1,0,1|wire=2,0,2|wire=0,0,1|wire=0,1,2|wire=1,0,1|"
-    -- A 13 anywhere else is refused 1: 13 alone, 13 13 10, 10 13; on edit lines 13 13 10, and 13 at the end of the input
-    ∷ plate "bars=2^wires=2^wire=0,1^wire=0,1^around=0,1^around=0,1^" "refused=1|"
-    ∷ plate "bars=2^^|wires=2^^|wire=0,1^^|wire=0,1^^|around=0,1^^|around=0,1^^|" "refused=1|"
-    ∷ plate "bars=2|^wires=2|^wire=0,1|^wire=0,1|^around=0,1|^around=0,1|" "refused=1|"
-    ∷ plateOf fresh "bars=2|wires=2|wire=0,1|wire=0,1|around=0,1|around=0,1^|in=1^^|in=1^" "refused=1|refused=1|rows=2|columns=2|bar=0,0,1|bar=1,0,1|wire=1,0,1|wire=0,0,1|"
+    -- Line ends from the packaging line: P8 with lines ended in 13 10; in both ways, then 13 13 10, and 13 at the end of the input: 1
+    ∷ plateOf fresh "bars=2^|wires=2^|wire=0,1^|wire=0,1^|around=0,1^|around=0,1^|out=1^|in=0^|" "refused=15|refused=12|rows=2|columns=2|bar=0,0,1|bar=1,0,1|wire=1,0,1|wire=0,0,1|"
+    ∷ plateOf fresh "bars=2^|wires=2|wire=0,1|wire=0,1^|around=0,1|around=0,1^|out=1|in=0^|in=1^^|in=1^" "refused=15|refused=12|refused=1|refused=1|rows=2|columns=2|bar=0,0,1|bar=1,0,1|wire=1,0,1|wire=0,0,1|"
+    -- A 13 anywhere else in a sheet: `bars=129` would be 2, but 13 alone, 13 13 10 and 10 13 are refused 1
+    ∷ plate "bars=129^" "refused=1|"
+    ∷ plate "bars=129^^|" "refused=1|"
+    ∷ plate "bars=2|^wires=1|" "refused=1|"
     ∷ []
 
 -- two texts are the same
