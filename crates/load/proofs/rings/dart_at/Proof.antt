@@ -1,6 +1,8 @@
-use mathlib.Core.Path.{sym, ap, _∙_}
-use Prim.Native.Nat.{ℕ}
+use mathlib.Core.Path.{_≡_, sym, ap, _∙_}
+use mathlib.Core.Logic.{_≢_}
+use Prim.Native.Nat.{ℕ, _+_}
 use lib.Dec.{eqb}
+use lib.ListN.{getD}
 use Rattle.counting.specs.Counts.{bit}
 use Rattle.load.proofs.Walking.{dart-past, dart-seen, dart-there, dart-none}
 use borrow.Author.Needs.{needs}
@@ -55,17 +57,28 @@ bit-requires-2 c κs = search needs
 add-if3 : tie.Need-add-if3
 add-if3 c = search needs
 
+abbrev unseen : tie.After-bit2 → tie.Else2
+unseen c = c .before .before .before .before .before .before
+
+abbrev below : tie.After-bit2 → tie.Else1
+below c = unseen c .before .before .before
+
+-- whether the edge's tail and its head stand there, as numbers
+tail-there : (c : tie.After-bit2) → let a = below c .before .args in c .before .before .before .bit .result ≡ bit (eqb (getD (a .tails .now) (a .w) 0) (a .v))
+tail-there c = let b = c .before .before .before in b .bit .ensures .0 ∙ ap (λ (x : ℕ). bit (eqb x (below c .before .args .v))) (b .before .wide2 .ensures .0)
+
+head-there : (c : tie.After-bit2) → let a = below c .before .args in c .bit2 .result ≡ bit (eqb (getD (a .heads .now) (a .w) 0) (a .v))
+head-there c = c .bit2 .ensures .0 ∙ ap (λ (x : ℕ). bit (eqb x (below c .before .args .v))) (c .before .wide3 .ensures .0)
+
+not-seen : (c : tie.After-bit2) → let a = below c .before .args in getD (a .seen .now) (a .w) 0 ≢ a .v + 1
+not-seen c q = unseen c .if2 .left (unseen c .before .wide .ensures .0 ∙ q)
+
 returns-3 : tie.Need-returns-3
 returns-3 c =
-    let b2 = c .before in
-    let w3 = b2 .before in
-    let b1 = w3 .before .before in
-    let w2 = b1 .before in
-    let p2 = w2 .before .before in
-    let p1 = p2 .before .before .before in
-    let a = p1 .before .args in
-    dart-none (a .m) (a .tails .now) (a .heads .now) (a .v) (a .seen .now) (a .w) (p1 .if1 .left) (λ q. p2 .if2 .left (p2 .before .wide .ensures .0 ∙ q)) _ _
-    (b1 .bit .ensures .0 ∙ ap (λ (x : ℕ). bit (eqb x (a .v))) (w2 .wide2 .ensures .0)) (b2 .bit2 .ensures .0 ∙ ap (λ (x : ℕ). bit (eqb x (a .v))) (w3 .wide3 .ensures .0)) (p1 .before .pre .2) (c .if3 .taken)
+    let b = c .before in
+    let start = below b .before in
+    let a = start .args in
+    dart-none (a .m) (a .tails .now) (a .heads .now) (a .v) (a .seen .now) (a .w) (below b .if1 .left) (not-seen b) _ _ (tail-there b) (head-there b) (start .pre .2) (c .if3 .taken)
 
 mul-result : tie.Need-mul-result
 mul-result c = search needs
@@ -78,15 +91,9 @@ sub-result c = search needs
 
 returns-4 : tie.Need-returns-4
 returns-4 c =
-    let b2 = c .before in
-    let w3 = b2 .before in
-    let b1 = w3 .before .before in
-    let w2 = b1 .before in
-    let p2 = w2 .before .before in
-    let p1 = p2 .before .before .before in
-    let a = p1 .before .args in
-    dart-there (a .m) (a .tails .now) (a .heads .now) (a .v) (a .seen .now) (a .w) (p1 .if1 .left) (λ q. p2 .if2 .left (p2 .before .wide .ensures .0 ∙ q)) _ _
-    (b1 .bit .ensures .0 ∙ ap (λ (x : ℕ). bit (eqb x (a .v))) (w2 .wide2 .ensures .0)) (b2 .bit2 .ensures .0 ∙ ap (λ (x : ℕ). bit (eqb x (a .v))) (w3 .wide3 .ensures .0)) (c .if3 .left)
+    let b = c .before in
+    let a = below b .before .args in
+    dart-there (a .m) (a .tails .now) (a .heads .now) (a .v) (a .seen .now) (a .w) (below b .if1 .left) (not-seen b) _ _ (tail-there b) (head-there b) (c .if3 .left)
 
 pub dart-at-spec : {M : Type 1} → statement M
 dart-at-spec =
