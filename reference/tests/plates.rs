@@ -2,7 +2,9 @@
 
 mod common;
 
-use common::{lines, load_answer, plate_words, printed, sheet_of, FRESH, FRESH_DRAWN, P4};
+use common::{
+    examples, lines, load_answer, plate_words, printed, sheet_of, FRESH, FRESH_DRAWN, P4,
+};
 use reference::{draw, load, plate, take_out_wire, trace, Sheet};
 
 const P5: &str = "bars=2 wires=2 wire=0,1 wire=0,1 around=0,1 around=0,1 in=1 run=0,1,2,2";
@@ -98,14 +100,9 @@ fn counts_of_bars() {
 
 #[test]
 fn examples_folder() {
-    let folder = std::path::Path::new(env!("CARGO_MANIFEST_DIR")).join("../examples");
-    let mut names: Vec<_> =
-        folder.read_dir().expect("a folder").map(|entry| entry.expect("a file").path()).collect();
-    names.retain(|path| path.extension().is_some_and(|extension| extension == "sheet"));
-    assert_eq!(names.len(), 14);
-    for path in names {
-        let input = std::fs::read(&path).expect("the input");
-        let expected = std::fs::read(path.with_extension("out")).expect("the output beside it");
+    let examples = examples();
+    assert_eq!(examples.len(), 14);
+    for (path, input, expected) in examples {
         assert_eq!(plate(&input), expected, "{}", path.display());
     }
 }

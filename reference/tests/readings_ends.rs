@@ -2,11 +2,12 @@
 
 mod common;
 
-use common::{lines, load_answer, plate_words, printed, FRESH, FRESH_DRAWN as DRAWN, P4};
+use common::{examples, lines, load_answer, printed, FRESH, FRESH_DRAWN as DRAWN};
 use reference::generate::{
-    extreme_sheets, mixed_ends, random_sheet, sheet_text, truncations, Random,
+    extreme_sheets, mixed_ends, random_sheet, sheet_text as turned_text, truncations, Random,
 };
-use reference::{load, plate, read_edit, write_drawing, write_sheet, Edit, Sheet};
+use reference::write::{drawing_text, sheet_text};
+use reference::{draw, load, plate, read_edit, Edit, Sheet};
 
 /// A text of the given words, each a line with the given end.
 fn ended(words: &str, end: &str) -> Vec<u8> {
@@ -85,11 +86,9 @@ fn a_written_text_has_no_13() {
     let random = &mut Random::new(81);
     for _ in 0..200 {
         let sheet = random_sheet(random);
-        let mut buffer = [0; 10_000];
-        let (_, count) = write_sheet(&sheet, &mut buffer);
-        assert!(count > 0 && !buffer[..count].contains(&b'\r'));
-        let (_, count) = write_drawing(&sheet, &mut buffer);
-        assert!(count > 0 && !buffer[..count].contains(&b'\r'));
+        for text in [sheet_text(&sheet), drawing_text(&sheet, &draw(&sheet).1)] {
+            assert!(text.ends_with(b"\n") && !text.contains(&b'\r'));
+        }
     }
 }
 
@@ -99,7 +98,7 @@ fn a_sheet_with_mixed_ends_is_the_same_sheet() {
     let mut sheets = extreme_sheets(random);
     sheets.extend((0..1000).map(|_| random_sheet(random)));
     for sheet in &sheets {
-        let text = sheet_text(random, sheet);
+        let text = turned_text(random, sheet);
         let mixed = mixed_ends(random, &text);
         let without: Vec<u8> = mixed.iter().copied().filter(|&byte| byte != b'\r').collect();
         assert!(without == text);
@@ -108,23 +107,20 @@ fn a_sheet_with_mixed_ends_is_the_same_sheet() {
 }
 
 #[test]
-fn every_plate_in_both_line_ends() {
+fn every_example_in_both_line_ends() {
     let random = &mut Random::new(83);
-    for words in [
-        FRESH.to_string(),
-        P4.to_string(),
-        format!("{FRESH} in=1 run=0,1,2,2"),
-        format!("{FRESH} in=1 run=0,1,2,2 out=3"),
-        format!("{FRESH} in=1 run=0,1,2,2 out=2"),
-        format!("{FRESH} out=1 in=0"),
-        format!("{P4} run=3,5,2,2 run=3,4,2,2"),
-        "bars=128".to_string(),
-        "bars=129".to_string(),
-    ] {
-        let expected = plate_words(&words);
-        assert_eq!(printed(&ended(&words, "\r\n")), expected);
+    let examples = examples();
+    assert_eq!(examples.len(), 14);
+    for (path, input, expected) in examples {
+        let input = String::from_utf8(input).expect("text").replace("\r\n", "\n");
+        assert_eq!(plate(input.replace('\n', "\r\n").as_bytes()), expected, "{}", path.display());
         for _ in 0..20 {
-            assert_eq!(printed(&mixed_ends(random, &lines(&words))), expected);
+            assert_eq!(
+                plate(&mixed_ends(random, input.as_bytes())),
+                expected,
+                "{}",
+                path.display()
+            );
         }
     }
 }

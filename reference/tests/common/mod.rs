@@ -5,6 +5,8 @@ pub mod geometry;
 pub mod model;
 pub mod slow;
 
+use std::path::{Path, PathBuf};
+
 use reference::{load, plate, write_drawing, write_sheet, Answer, Sheet};
 
 /// A text of the given words, each a line.
@@ -64,6 +66,16 @@ fn words_in(answer: Answer, count: usize, buffer: &[u8]) -> String {
     let text = std::str::from_utf8(&buffer[..count]).expect("text");
     assert!(text.ends_with('\n') && !text.contains('#'));
     text.lines().collect::<Vec<_>>().join(" ")
+}
+
+/// The inputs of the folder examples with the outputs beside them, which were worked out by hand.
+pub fn examples() -> Vec<(PathBuf, Vec<u8>, Vec<u8>)> {
+    let folder = Path::new(env!("CARGO_MANIFEST_DIR")).join("../examples");
+    let entries = folder.read_dir().expect("the folder");
+    let mut paths: Vec<PathBuf> = entries.map(|entry| entry.expect("a file").path()).collect();
+    paths.retain(|path| path.extension().is_some_and(|extension| extension == "sheet"));
+    let read = |path: &Path| std::fs::read(path).expect("a file");
+    paths.into_iter().map(|p| (p.clone(), read(&p), read(&p.with_extension("out")))).collect()
 }
 
 /// The fresh sheet as words.
