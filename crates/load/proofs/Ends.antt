@@ -11,50 +11,50 @@ use lib.Seq.{getD-set-same, getD-set-other}
 use Rattle.clauses.specs.Darts.{touchesOf}
 use Rattle.clauses.proofs.Touching.{touches-tail, touches-head, touches-not}
 use Rattle.counting.specs.Counts.{bit, count}
-use Rattle.counting.proofs.Counts.{count-le}
-use Rattle.load.specs.Contracts.{Joint}
+use Rattle.counting.proofs.Counts.{count-agree, count-le}
+use Rattle.load.specs.Contracts.{Counted, oneMore}
 
-module _ (tails heads : List ℕ) where
-  -- degree has the count of each vertex among the first k edges
-  abbrev pub Counted : List ℕ → ℕ → Type 0
-  Counted degree k = (v : ℕ) → v < 128 → getD degree v 0 ≡ count (λ k. touchesOf tails heads k v) k
+pub counted-none : (tails heads degrees : List ℕ) → ((v : ℕ) → getD degrees v 0 ≡ 0) → Counted 0 tails heads degrees
+unfolding count
+counted-none tails heads degrees z v h = z v
 
-  pub counted-none : (degree : List ℕ) → ((v : ℕ) → v < 128 → getD degree v 0 ≡ 0) → Counted degree 0
+pub counted-most : (k : ℕ) (tails heads degrees : List ℕ) → Counted k tails heads degrees → (v : ℕ) → v < 128 → getD degrees v 0 ≤ k
+counted-most k tails heads degrees c v h = omega (arith, c v h, count-le (λ i. touchesOf tails heads i v) k)
+
+pub more-length : (v : ℕ) (degrees : List ℕ) → length (oneMore v degrees) ≡ length degrees
+unfolding oneMore
+more-length v degrees = length-set degrees v (getD degrees v 0 + 1)
+
+pub more-same : (v : ℕ) (degrees : List ℕ) → v < length degrees → getD (oneMore v degrees) v 0 ≡ getD degrees v 0 + 1
+unfolding oneMore
+more-same v degrees h = getD-set-same degrees v (getD degrees v 0 + 1) 0 h
+
+pub more-other : (v w : ℕ) (degrees : List ℕ) → w ≢ v → getD (oneMore v degrees) w 0 ≡ getD degrees w 0
+unfolding oneMore
+more-other v w degrees n = getD-set-other degrees v w (getD degrees v 0 + 1) 0 n
+
+-- edge k, from a to b, is written behind the k that are counted
+module _ (k a b : ℕ) (tails heads degrees : List ℕ) (ht : k < length tails) (hh : k < length heads) (ha : a < 128) (hb : b < 128) (apart : b ≢ a)
+    (size : length degrees ≡ 128) (old : Counted k tails heads degrees) where
+  kept : (v i : ℕ) → i < k → touchesOf (set tails k a) (set heads k b) i v ≡ touchesOf tails heads i v
+  unfolding touchesOf
+  kept v i l = rw (getD-set-other tails k i a 0 (λ e. omega arith), getD-set-other heads k i b 0 (λ e. omega arith)) refl
+
+  count-more : (v : ℕ) → v < 128 → count (λ i. touchesOf (set tails k a) (set heads k b) i v) (k + 1) ≡ bit (touchesOf (set tails k a) (set heads k b) k v) + getD degrees v 0
   unfolding count
-  counted-none degree z v h = z v h
+  count-more v h = rw (add-one k, old v h, count-agree (λ i. touchesOf (set tails k a) (set heads k b) i v) (λ i. touchesOf tails heads i v) k (kept v)) refl
 
-  pub counted-most : (degree : List ℕ) (k : ℕ) → Counted degree k → (v : ℕ) → v < 128 → getD degree v 0 ≤ k
-  counted-most degree k c v h = omega (arith, c v h, count-le (λ k. touchesOf tails heads k v) k)
+  tail-is : getD (set tails k a) k 0 ≡ a
+  tail-is = getD-set-same tails k a 0 ht
 
-  module _ (k a b : ℕ) (ea : a ≡ getD tails k 0) (eb : b ≡ getD heads k 0) (joint : Joint 128 tails heads k) where
-    count-more : (v : ℕ) → count (λ k. touchesOf tails heads k v) (k + 1) ≡ bit (touchesOf tails heads k v) + count (λ k. touchesOf tails heads k v) k
-    unfolding count
-    count-more v = rw (add-one k) refl
+  head-is : getD (set heads k b) k 0 ≡ b
+  head-is = getD-set-same heads k b 0 hh
 
-    apart : b ≢ a
-    apart e = joint .apart (sym ea ∙ sym e ∙ eb)
-
-    module _ (degree : List ℕ) (size : length degree ≡ 128) (old : Counted degree k) where
-      pub head-kept : (x : ℕ) → getD (set degree a x) b 0 ≡ getD degree b 0
-      head-kept x = getD-set-other degree a b x 0 apart
-
-      pub counted-more : Counted (set (set degree a (getD degree a 0 + 1)) b (getD (set degree a (getD degree a 0 + 1)) b 0 + 1)) (k + 1)
-      counted-more v h = by-cases (ℕ-discrete v b) head (λ nb. by-cases (ℕ-discrete v a) (tail nb) (other nb))
-        where
-          one : List ℕ
-          one = set degree a (getD degree a 0 + 1)
-
-          head : v ≡ b → getD (set one b (getD one b 0 + 1)) v 0 ≡ count (λ k. touchesOf tails heads k v) (k + 1)
-          head e =
-              rw (e, getD-set-same one b (getD one b 0 + 1) 0 (omega (arith, length-set degree a (getD degree a 0 + 1))))
-              (omega (arith, head-kept (getD degree a 0 + 1), old b (omega arith), count-more b, ap bit (touches-head tails heads k b (sym eb))))
-
-          tail : v ≢ b → v ≡ a → getD (set one b (getD one b 0 + 1)) v 0 ≡ count (λ k. touchesOf tails heads k v) (k + 1)
-          tail nb e =
-              rw (getD-set-other one b v (getD one b 0 + 1) 0 nb, e, getD-set-same degree a (getD degree a 0 + 1) 0 (omega arith))
-              (omega (arith, old a (omega arith), count-more a, ap bit (touches-tail tails heads k a (sym ea))))
-
-          other : v ≢ b → v ≢ a → getD (set one b (getD one b 0 + 1)) v 0 ≡ count (λ k. touchesOf tails heads k v) (k + 1)
-          other nb na =
-              rw (getD-set-other one b v (getD one b 0 + 1) 0 nb, getD-set-other degree a v (getD degree a 0 + 1) 0 na)
-              (omega (arith, old v h, count-more v, ap bit (touches-not tails heads k v (λ e. na (sym e ∙ sym ea)) (λ e. nb (sym e ∙ sym eb)))))
+  pub counted-more : Counted (k + 1) (set tails k a) (set heads k b) (oneMore b (oneMore a degrees))
+  counted-more v h =
+      by-cases (ℕ-discrete v b)
+      (λ e. rw e (omega (arith, more-same b (oneMore a degrees) (omega (arith, more-length a degrees)), more-other a b degrees apart, count-more b hb, ap bit (touches-head (set tails k a) (set heads k b) k b head-is))))
+      (λ nb.
+      by-cases (ℕ-discrete v a)
+      (λ e. rw e (omega (arith, more-other b a (oneMore a degrees) (λ q. apart (sym q)), more-same a degrees (omega arith), count-more a ha, ap bit (touches-tail (set tails k a) (set heads k b) k a tail-is))))
+      (λ na. omega (arith, more-other b v (oneMore a degrees) nb, more-other a v degrees na, count-more v h, ap bit (touches-not (set tails k a) (set heads k b) k v (λ q. na (sym q ∙ tail-is)) (λ q. nb (sym q ∙ head-is))))))

@@ -1,7 +1,7 @@
 -- The loops over the lines, turn by turn: what is left to read gives what the whole gives. Assumes nothing.
 use Prim.Native.Nat.{ℕ, zero, suc, _+_, _-_, _≤_, _<_}
 use mathlib.Core.Path.{_≡_, refl, sym, ap, _∙_}
-use mathlib.Core.Logic.{by-cases}
+use mathlib.Core.Logic.{_≢_, by-cases}
 use mathlib.Core.Bool.{Bool, true, false, not, _&&_, and-eq-true-iff, false≢true}
 use mathlib.Core.List.{List, [], _∷_}
 use native.Mathlib.Decide.{ℕ-discrete}
@@ -34,7 +34,7 @@ use Rattle.load.specs.Rings.{isRotation, linkFrom, linkRing}
 use Rattle.load.specs.Load.{Parsed, emptySheet, withEdge, withNexts, judged, ringLines, edgeLines, withCount, loaded}
 use Rattle.load.specs.Load.Parsed.{refused}
 use Rattle.sheet.specs.Darts.{sheetOf}
-use Rattle.load.specs.Contracts.{noNexts, countOf, Joint, afterEdges, EdgesRead, afterRings, fitFrom, linkedFrom, linked, Ringed, ringed, unringed, ringedBy, linkedOn, ringFrom, RingRead}
+use Rattle.load.specs.Contracts.{noNexts, countOf, Joint, Counted, afterEdges, EdgesRead, afterRings, fitFrom, linkedFrom, linked, Ringed, ringed, unringed, ringedBy, linkedOn, ringFrom, RingRead}
 use Rattle.load.proofs.Occurrences.{rotation-if, rotation-length, rotation-fits}
 
 -- ---- the count lines
@@ -126,17 +126,22 @@ module _ (text : List ℕ) (n m : ℕ) (whole : Parsed) (at k : ℕ) (tails head
           let z : m - k ≡ suc (m - (k + 1)) = omega arith in
           rw test at (sym (two-is (refused BadLayout) _ (lineAt wireKey text at) a b next e) ∙ rw z at rest)
 
+pub joins-means : (n a b : ℕ) → Joins n a b ≡ true → (a < n) × (b < n) × (a ≢ b)
+joins-means n a b j =
+    let (inside, apart) = and-eq-true-iff (ltb a n && ltb b n) (not (eqb a b)) .0 j in
+    let (ha, hb) = and-eq-true-iff (ltb a n) (ltb b n) .0 inside in
+    (ltb-true a n ha, ltb-true b n hb, eqb-false a b (not-true (eqb a b) apart))
+
 -- one edge more
 pub joint-more : (n k a b : ℕ) (tails heads : List ℕ) → k < length tails → k < length heads → Joins n a b ≡ true
     → ((i : ℕ) → i < k → Joint n tails heads i) → (i : ℕ) → i < k + 1 → Joint n (set tails k a) (set heads k b) i
 joint-more n k a b tails heads ht hh j old i l =
-    let (inside, apart) = and-eq-true-iff (ltb a n && ltb b n) (not (eqb a b)) .0 j in
-    let (ha, hb) = and-eq-true-iff (ltb a n) (ltb b n) .0 inside in
+    let (ha, hb, apart) = joins-means n a b j in
     by-cases (ℕ-discrete i k)
     (λ e. rw e (record {
-      tail-in = rw (getD-set-same tails k a 0 ht) (ltb-true a n ha);
-      head-in = rw (getD-set-same heads k b 0 hh) (ltb-true b n hb);
-      apart = rw (getD-set-same tails k a 0 ht, getD-set-same heads k b 0 hh) (eqb-false a b (not-true (eqb a b) apart));
+      tail-in = rw (getD-set-same tails k a 0 ht) ha;
+      head-in = rw (getD-set-same heads k b 0 hh) hb;
+      apart = rw (getD-set-same tails k a 0 ht, getD-set-same heads k b 0 hh) apart;
     }))
     (λ e.
     let o = old i (omega arith) in
@@ -146,21 +151,19 @@ joint-more n k a b tails heads ht hh j old i l =
       apart = rw (getD-set-other tails k i a 0 e, getD-set-other heads k i b 0 e) (o .apart);
     })
 
-module _ (text : List ℕ) (n m start : ℕ) (tails₀ heads₀ tails heads : List ℕ) where
-  pub edges-refused : (a : Answer) → refused a ≡ edgeLines m text (sheetOf n m tails₀ heads₀ noNexts) 0 start → EdgesRead text n m start tails₀ heads₀ tails heads (Refused a)
+module _ (text : List ℕ) (n m start : ℕ) (tails₀ heads₀ tails heads degrees : List ℕ) where
+  refused-next : (a : Answer) (at : ℕ) → Refused a ≡ Next at → ⊥
+  refused-next a at q = let z : _≡_ {A = ℕ} 0 1 = cc in omega arith
+
+  pub edges-refused : (a : Answer) → refused a ≡ edgeLines m text (sheetOf n m tails₀ heads₀ noNexts) 0 start
+      → EdgesRead text n m start tails₀ heads₀ tails heads degrees (Refused a)
   unfolding afterEdges
-  edges-refused a e =
-      record {
-        rest = e;
-        joined = λ at q.
-            let z : _≡_ {A = ℕ} 0 1 = cc in
-            absurd (omega arith);
-      }
+  edges-refused a e = record { rest = e; joined = λ at q. absurd (refused-next a at q); counted = λ at q. absurd (refused-next a at q) }
 
   pub edges-next : (at : ℕ) → ringLines n text (sheetOf n m tails heads noNexts) 0 at ≡ edgeLines m text (sheetOf n m tails₀ heads₀ noNexts) 0 start
-      → ((k : ℕ) → k < m → Joint n tails heads k) → EdgesRead text n m start tails₀ heads₀ tails heads (Next at)
+      → ((k : ℕ) → k < m → Joint n tails heads k) → Counted m tails heads degrees → EdgesRead text n m start tails₀ heads₀ tails heads degrees (Next at)
   unfolding afterEdges
-  edges-next at e j = record { rest = e; joined = λ a q. j }
+  edges-next at e j d = record { rest = e; joined = λ a q. j; counted = λ a q. d }
 
 -- what load goes on to
 module _ (text : List ℕ) (n m : ℕ) (tails heads : List ℕ) (r : Step) (whole : Parsed) (rest : afterEdges text n m tails heads r ≡ whole) where

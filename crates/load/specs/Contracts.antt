@@ -7,6 +7,7 @@ use mathlib.Core.List.{List, [], _∷_}
 use lib.Dec.{eqb, ltb, leb}
 use lib.ListN.{getD, set, length, replicate}
 use Rattle.clauses.specs.Darts.{touchesOf, dartOf}
+use Rattle.counting.specs.Counts.{count}
 use Rattle.text.specs.declared.Number.{Number}
 use Rattle.text.specs.declared.Number.the-variants.{Value, Missing}
 use Rattle.counting.specs.Choice.{pick}
@@ -47,14 +48,23 @@ pub record Joint (n : ℕ) (tails heads : List ℕ) (k : ℕ) : Type 0 where
 abbrev pub Apart : ℕ → List ℕ → List ℕ → Type 0
 Apart m tails heads = (k : ℕ) → k < m → getD tails k 0 ≢ getD heads k 0
 
+-- degrees has for each vertex how many of the first k edges have an end there
+abbrev pub Counted : ℕ → List ℕ → List ℕ → List ℕ → Type 0
+Counted k tails heads degrees = (v : ℕ) → v < 128 → getD degrees v 0 ≡ count (λ i. touchesOf tails heads i v) k
+
+-- one more at v
+unfoldable pub oneMore : ℕ → List ℕ → List ℕ
+oneMore v degrees = set degrees v (getD degrees v 0 + 1)
+
 -- what load goes on to
 unfoldable pub afterEdges : List ℕ → ℕ → ℕ → List ℕ → List ℕ → Step → Parsed
 afterEdges text n m tails heads (Next at) = ringLines n text (sheetOf n m tails heads noNexts) 0 at
 afterEdges text n m tails heads (Refused a) = refused a
 
-pub record EdgesRead (text : List ℕ) (n m start : ℕ) (tails₀ heads₀ tails heads : List ℕ) (r : Step) : Type 0 where
+pub record EdgesRead (text : List ℕ) (n m start : ℕ) (tails₀ heads₀ tails heads degrees : List ℕ) (r : Step) : Type 0 where
   pub rest : afterEdges text n m tails heads r ≡ edgeLines m text (sheetOf n m tails₀ heads₀ noNexts) 0 start
   pub joined : (at : ℕ) → r ≡ Next at → (k : ℕ) → k < m → Joint n tails heads k
+  pub counted : (at : ℕ) → r ≡ Next at → Counted m tails heads degrees
 
 -- ---- the ring lines
 

@@ -3,7 +3,7 @@ ghost use mathlib.Core.Path.{_≡_};
 ghost use Prim.Native.Nat.{ℕ, _≤_, _<_};
 ghost use Rattle.load.specs.Load.{refused, emptySheet, judged, ringLines, edgeLines, loaded, load};
 ghost use Rattle.sheet.specs.Darts.{sheetOf};
-ghost use Rattle.load.specs.Contracts.{noNexts, Joint};
+ghost use Rattle.load.specs.Contracts.{noNexts, Joint, Counted};
 use answers::Answer;
 use lines::Count;
 use lines::Step;
@@ -71,13 +71,14 @@ fn load_rings(
     m: usize,
     tails: &[u16; 256],
     heads: &[u16; 256],
+    degrees: &[u16; 128],
     present: Sheet,
 ) -> Loaded
-    requires { ⌜ (n ≤ 128) × (m ≤ 256) × ((k : ℕ) → k < m → Joint n (now tails) (now heads) k) ⌝ }
+    requires { ⌜ (n ≤ 128) × (m ≤ 256) × ((k : ℕ) → k < m → Joint n (now tails) (now heads) k) × Counted m (now tails) (now heads) (now degrees) ⌝ }
     ensures { λ r. ⌜ r ≡ loaded present (ringLines n (now (text .entry)) (sheetOf n m (now (tails .entry)) (now (heads .entry)) noNexts) 0 at) ⌝ }
 {
     let mut nexts = [0u16; 512];
-    let step = rings::ring_lines(text, at, n, m, tails, heads, &mut nexts);
+    let step = rings::ring_lines(text, at, n, m, tails, heads, degrees, &mut nexts);
     match step {
         Step::Refused(answer) => refuse(answer, present),
         Step::Next(next) => load_judged(n, m, tails, heads, &nexts, next, present),
@@ -91,10 +92,11 @@ fn load_edges(text: &[u8], at: usize, n: usize, m: usize, present: Sheet) -> Loa
 {
     let mut tails = [0u16; 256];
     let mut heads = [0u16; 256];
-    let step = lines::edge_lines(text, at, n, m, &mut tails, &mut heads);
+    let mut degrees = [0u16; 128];
+    let step = lines::edge_lines(text, at, n, m, &mut tails, &mut heads, &mut degrees);
     match step {
         Step::Refused(answer) => refuse(answer, present),
-        Step::Next(next) => load_rings(text, next, n, m, &tails, &heads, present),
+        Step::Next(next) => load_rings(text, next, n, m, &tails, &heads, &degrees, present),
     }
 }
 

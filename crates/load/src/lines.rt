@@ -1,11 +1,11 @@
 // The lines of a sheet before its rings: the two counts, and the edges.
 ghost use mathlib.Core.Path.{_≡_};
 ghost use mathlib.Core.Bool.{_&&_};
-ghost use Prim.Native.Nat.{_≤_};
-ghost use lib.ListN.{length};
+ghost use Prim.Native.Nat.{_≤_, _<_};
+ghost use lib.ListN.{length, getD};
 ghost use lib.Dec.{leb};
 ghost use Rattle.text.specs.Reading.{lineAt};
-ghost use Rattle.load.specs.Contracts.{countOf, EdgesRead};
+ghost use Rattle.load.specs.Contracts.{countOf, oneMore, Counted, EdgesRead};
 use answers::Answer;
 use counting::wide;
 use text::Pair;
@@ -44,7 +44,16 @@ pub fn count_line(text: &[u8], at: usize, key: &[u8], most: usize) -> Count
     Count::Value(n, read.next)
 }
 
-// m lines `wire=tail,head` of a sheet with n vertices.
+// One edge more has an end at v.
+fn count_end(v: u16, degrees: &mut [u16; 128])
+    requires { ⌜ (v < 128) × (length (now degrees) ≡ 128) × (getD (now degrees) v 0 < 65535) ⌝ }
+    ensures { λ _. ⌜ now (degrees .exit) ≡ oneMore v (now (degrees .entry)) ⌝ }
+{
+    let at = wide(v);
+    degrees[at] += 1;
+}
+
+// m lines `wire=tail,head` of a sheet with n vertices. The edges at each vertex are counted as they are read.
 pub fn edge_lines(
     text: &[u8],
     start: usize,
@@ -52,9 +61,10 @@ pub fn edge_lines(
     m: usize,
     tails: &mut [u16; 256],
     heads: &mut [u16; 256],
+    degrees: &mut [u16; 128],
 ) -> Step
-    requires { ⌜ (m ≤ 256) × (length (now tails) ≡ 256) × (length (now heads) ≡ 256) ⌝ }
-    ensures { λ r. ⌜ EdgesRead (now (text .entry)) n m start (now (tails .entry)) (now (heads .entry)) (now (tails .exit)) (now (heads .exit)) r ⌝ }
+    requires { ⌜ (n ≤ 128) × (m ≤ 256) × (length (now tails) ≡ 256) × (length (now heads) ≡ 256) × (length (now degrees) ≡ 128) × Counted 0 (now tails) (now heads) (now degrees) ⌝ }
+    ensures { λ r. ⌜ EdgesRead (now (text .entry)) n m start (now (tails .entry)) (now (heads .entry)) (now (tails .exit)) (now (heads .exit)) (now (degrees .exit)) r ⌝ }
 {
     let mut at = start;
     let mut k = 0;
@@ -68,6 +78,8 @@ pub fn edge_lines(
                 }
                 tails[k] = a;
                 heads[k] = b;
+                count_end(a, degrees);
+                count_end(b, degrees);
                 at = next;
                 k += 1;
             }

@@ -2,11 +2,8 @@
 ghost use mathlib.Core.Path.{_≡_};
 ghost use Prim.Native.Nat.{ℕ, _≤_, _<_};
 ghost use mathlib.Core.List.{[]};
-ghost use lib.ListN.{getD};
-ghost use Rattle.clauses.specs.Darts.{touchesOf};
-ghost use Rattle.counting.specs.Counts.{count};
 ghost use Rattle.text.specs.Reading.{numberAt, listed, closed};
-ghost use Rattle.load.specs.Contracts.{Joint, Apart, dartIf, edgeOf, marksOf, firstOf, linkOf, isListed, refusalOf, restAt, ringedBy, ringEnd, RingRead, RingsRead};
+ghost use Rattle.load.specs.Contracts.{Joint, Apart, Counted, dartIf, edgeOf, marksOf, firstOf, linkOf, isListed, refusalOf, restAt, ringedBy, ringEnd, RingRead, RingsRead};
 use crate::lines::Step;
 use answers::Answer;
 use counting::bit;
@@ -19,23 +16,6 @@ enum Entry {
     Edge(usize, usize),
     Unfit(usize),
     Absent,
-}
-
-// How many of m edges have an end at each vertex.
-fn degrees(m: usize, tails: &[u16; 256], heads: &[u16; 256]) -> [u16; 128]
-    requires { ⌜ (m ≤ 256) × ((k : ℕ) → k < m → Joint 128 (now tails) (now heads) k) ⌝ }
-    ensures { λ r. ⌜ ((v : ℕ) → v < 128 → getD r v 0 ≡ count (λ k. touchesOf (now (tails .entry)) (now (heads .entry)) k v) m) ⌝ }
-{
-    let mut degree = [0u16; 128];
-    let mut k = 0;
-    while k < m {
-        let tail = wide(tails[k]);
-        degree[tail] += 1;
-        let head = wide(heads[k]);
-        degree[head] += 1;
-        k += 1;
-    }
-    degree
 }
 
 // The dart of edge w at vertex v; 512 where w may not stand on v's line: it has no end there, or stood on the line before.
@@ -196,7 +176,7 @@ fn ring_line(
     }
 }
 
-// n lines `around=`.
+// n lines `around=`, where each vertex has as many edges as `degrees` says.
 pub fn ring_lines(
     text: &[u8],
     start: usize,
@@ -204,18 +184,18 @@ pub fn ring_lines(
     m: usize,
     tails: &[u16; 256],
     heads: &[u16; 256],
+    degrees: &[u16; 128],
     nexts: &mut [u16; 512],
 ) -> Step
-    requires { ⌜ (n ≤ 128) × (m ≤ 256) × ((k : ℕ) → k < m → Joint n (now tails) (now heads) k) ⌝ }
+    requires { ⌜ (n ≤ 128) × (m ≤ 256) × ((k : ℕ) → k < m → Joint n (now tails) (now heads) k) × Counted m (now tails) (now heads) (now degrees) ⌝ }
     ensures { λ r. ⌜ RingsRead (now (text .entry)) n m start (now (tails .entry)) (now (heads .entry)) (now (nexts .entry)) (now (nexts .exit)) r ⌝ }
 {
-    let degree = degrees(m, tails, heads);
     let mut seen = [0u16; 256];
     let mut at = start;
     let mut v = 0;
     while v < n {
-        let edges = wide(degree[v]);
-        let step = ring_line(text, at, edges, v, m, tails, heads, &mut seen, nexts);
+        let degree = wide(degrees[v]);
+        let step = ring_line(text, at, degree, v, m, tails, heads, &mut seen, nexts);
         match step {
             Step::Refused(answer) => return Step::Refused(answer),
             Step::Next(next) => at = next,

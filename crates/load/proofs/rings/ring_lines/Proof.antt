@@ -7,37 +7,34 @@ use lib.ListN.{getD, length}
 use Rattle.load.specs.Load.{ringLines}
 use Rattle.sheet.specs.Darts.{sheetOf}
 use Rattle.load.specs.Contracts.{afterRings}
-use Rattle.load.proofs.Turns.{joint-wider, zeros-at, rings-over, ring-line-refused, ring-line-next}
+use Rattle.load.proofs.Turns.{zeros-at, rings-over, ring-line-refused, ring-line-next}
 use borrow.Author.Needs.{needs}
 use Rattle.load.proofs.rings.ring_lines.Statement.{statement}
 use Rattle.load.proofs.rings.ring_lines.Tie as tie
 
 abbrev Inv-loop : tie.InvT-loop
-Inv-loop text start n m tails heads nexts₀ degree seen₀ at₀ v₀ nexts seen at v =
+Inv-loop text start n m tails heads degrees nexts₀ seen₀ at₀ v₀ nexts seen at v =
     (v ≤ n) × (ringLines (n - v) text (sheetOf n m tails heads nexts) v at ≡ ringLines n text (sheetOf n m tails heads nexts₀) 0 start)
     × ((k : ℕ) → getD seen k 0 ≤ v) × (length seen ≡ 256)
 
 abbrev μ-loop : tie.MeasureT-loop
-μ-loop text start n m tails heads nexts₀ degree seen₀ at₀ v₀ nexts seen at v = n - v
+μ-loop text start n m tails heads degrees nexts₀ seen₀ at₀ v₀ nexts seen at v = n - v
 
 -- how many edges the vertex has
-degree-is : (c : tie.After-wide Inv-loop μ-loop) → let loop = c .before .before in let a = loop .before .before .before .args in c .wide .result ≡ count (λ k. touchesOf (a .tails .now) (a .heads .now) k (loop .loop .v)) (a .m)
-degree-is c = let loop = c .before .before in c .wide .ensures .0 ∙ loop .before .degrees .ensures (loop .loop .v) (omega arith)
-
-degrees-requires : tie.Need-degrees-requires Inv-loop μ-loop
-degrees-requires c κs = (search needs, λ k l. joint-wider _ 128 _ _ k (search needs) (c .before .pre .2 k l))
+degree-is : (c : tie.After-wide Inv-loop μ-loop) → let loop = c .before .before .before in let a = loop .before .before .args in c .wide .result ≡ count (λ k. touchesOf (a .tails .now) (a .heads .now) k (loop .loop .v)) (a .m)
+degree-is c = let loop = c .before .before .before in c .wide .ensures .0 ∙ loop .before .before .pre .3 (loop .loop .v) (omega arith)
 
 loop-holds : tie.Need-loop-holds Inv-loop μ-loop
 loop-holds c =
-    let a = c .before .before .args in
+    let a = c .before .args in
     let z : a .n - 0 ≡ a .n = omega arith in
     (search needs, rw z refl, (λ k. omega (arith, zeros-at 256 k)), search needs)
 
 mul-wide : tie.Need-mul-wide Inv-loop μ-loop
 mul-wide c = search needs
 
-array-read-wide : tie.Need-array-read-wide Inv-loop μ-loop
-array-read-wide c = search needs
+element-copy-out-wide : tie.Need-element-copy-out-wide Inv-loop μ-loop
+element-copy-out-wide c = search needs
 
 wide-requires : tie.Need-wide-requires Inv-loop μ-loop
 wide-requires c κs = search needs
@@ -54,8 +51,8 @@ returns c =
     let step = c .before in
     let line = step .before .before in
     let wide = line .before .before .before in
-    let loop = wide .before .before in
-    ring-line-refused _ _ _ _ _ _ _ _ _ (loop .loop .inv .1) (wide .before .loop-test .taken) (loop .loop .seen) (omega arith) (loop .loop .inv .2) _ (degree-is wide) _ _ _ (line .ring-line .ensures) _ (step .step .given .1)
+    let loop = wide .before .before .before in
+    ring-line-refused _ _ _ _ _ _ _ _ _ (loop .loop .inv .1) (wide .before .before .loop-test .taken) (loop .loop .seen) (omega arith) (loop .loop .inv .2) _ (degree-is wide) _ _ _ (line .ring-line .ensures) _ (step .step .given .1)
 
 enum-known-step-2 : tie.Need-enum-known-step-2 Inv-loop μ-loop
 enum-known-step-2 c = search needs
@@ -71,9 +68,9 @@ loop-again c =
     let step = c .before in
     let line = step .before .before in
     let wide = line .before .before .before in
-    let loop = wide .before .before in
+    let loop = wide .before .before .before in
     let read = line .ring-line .ensures in
-    (search needs, ring-line-next _ _ _ _ _ _ _ _ _ (loop .loop .inv .1) (wide .before .loop-test .taken) (loop .loop .seen) (omega arith) (loop .loop .inv .2) _ (degree-is wide) _ _ _ read _ (step .step2 .given .1), (λ k. read .marks k (omega (arith, loop .loop .inv .2 k))), read .size ∙ loop .loop .inv .3)
+    (search needs, ring-line-next _ _ _ _ _ _ _ _ _ (loop .loop .inv .1) (wide .before .before .loop-test .taken) (loop .loop .seen) (omega arith) (loop .loop .inv .2) _ (degree-is wide) _ _ _ read _ (step .step2 .given .1), (λ k. read .marks k (omega (arith, loop .loop .inv .2 k))), read .size ∙ loop .loop .inv .3)
 
 returns-2 : tie.Need-returns-2 Inv-loop μ-loop
 unfolding afterRings
@@ -85,10 +82,9 @@ ring-lines-spec =
     (tie.spec
     Inv-loop
     μ-loop
-    degrees-requires
     loop-holds
     mul-wide
-    array-read-wide
+    element-copy-out-wide
     wide-requires
     ring-line-requires
     enum-known-step
