@@ -126,20 +126,21 @@ fn marked(m: usize, ends: &[u16; 256]) -> [bool; 256]
     marks
 }
 
-// Whether `pole` is the only vertex of n that is not among the first m ends.
+// Whether `pole` is the only vertex of n that is not among the first m ends. All are looked at, which takes no branch.
 fn only_pole(n: usize, m: usize, ends: &[u16; 256], pole: usize) -> bool
     requires { ⌜ (n ≤ 256) × Ends 256 m (now ends) ⌝ }
     ensures { λ r. ⌜ r ≡ allBelow (poleAt m (now (ends .entry)) pole) n ⌝ }
 {
     let marks = marked(m, ends);
+    let mut only = true;
     let mut v = 0;
     while v < n {
         if marks[v] == (v == pole) {
-            return false;
+            only = false;
         }
         v += 1;
     }
-    true
+    only
 }
 
 // Whether vertex 0 is the only one that is no head, and vertex 1 the only one that is no tail.

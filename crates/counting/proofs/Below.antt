@@ -2,7 +2,7 @@
 use Prim.Native.Nat.{ℕ, zero, suc, _+_, _≤_, _<_}
 use mathlib.Core.Path.{_≡_, refl, sym, ap, _∙_}
 use mathlib.Core.Logic.{by-cases}
-use mathlib.Core.Bool.{Bool, true, false, _&&_, and-false, and-eq-true-iff}
+use mathlib.Core.Bool.{Bool, true, false, _&&_, and-true, and-false, and-eq-true-iff}
 use mathlib.Core.List.{List, [], _∷_, _++_}
 use native.Mathlib.Decide.{ℕ-discrete}
 use native.Mathlib.Numerals.{add-one}
@@ -12,9 +12,12 @@ use lib.Seq.{getD-at}
 use Rattle.counting.specs.Below.{allBelow, tabulate}
 
 module _ (p : ℕ → Bool) where
-  pub all-more : (k : ℕ) → allBelow p k ≡ true → p k ≡ true → allBelow p (k + 1) ≡ true
+  pub all-kept : (k : ℕ) → p k ≡ true → allBelow p (k + 1) ≡ allBelow p k
   unfolding allBelow
-  all-more k a b = rw (add-one, a, b) refl
+  all-kept k b = rw (add-one, b) (and-true (allBelow p k))
+
+  pub all-more : (k : ℕ) → allBelow p k ≡ true → p k ≡ true → allBelow p (k + 1) ≡ true
+  all-more k a b = all-kept k b ∙ a
 
   pub all-fails : (n k : ℕ) → k < n → p k ≡ false → allBelow p n ≡ false
   unfolding allBelow
