@@ -1,7 +1,7 @@
 -- The numbers of an `around=` line, read one after the other, each checked and linked to the one before. Assumes nothing.
 use Prim.Native.Nat.{ℕ, _+_, _-_, _*_, _≤_, _<_}
 use mathlib.Core.Path.{_≡_, refl, sym, ap, _∙_}
-use mathlib.Core.Logic.{_≢_, by-cases}
+use mathlib.Core.Logic.{by-cases}
 use mathlib.Core.Bool.{Bool, true, false, not, and-eq-true-iff, and-false, false≢true}
 use mathlib.Core.List.{List, [], _∷_}
 use native.Mathlib.Decide.{ℕ-discrete, decLt}
@@ -28,7 +28,7 @@ use Rattle.load.specs.declared.lines.Step.the-variants.{Next, Refused}
 use Rattle.load.specs.declared.rings.Entry.{Entry}
 use Rattle.load.specs.declared.rings.Entry.the-variants.{Edge, Unfit, Absent}
 use Rattle.text.specs.Keys.{aroundKey}
-use Rattle.load.specs.Contracts.{Apart, fitsOf, dartIf, edgeOf, marksOf, firstOf, linkOf, restAt, isListed, refusalOf, fitFrom, linkedFrom, linked, Ringed, unringed, ringedBy, ringEnd, linkedOn, ringFrom, RingRead}
+use Rattle.load.specs.Contracts.{Apart, fitsOf, edgeOf, marksOf, firstOf, linkOf, restAt, isListed, refusalOf, fitFrom, linkedFrom, linked, Ringed, unringed, ringedBy, ringEnd, linkedOn, ringFrom, RingRead}
 
 never : {A : Type 0} → _≡_ {A = ℕ} 0 1 → A
 never z = absurd (omega arith)
@@ -122,63 +122,40 @@ module _ (s : List ℕ) (at end degree count first last : ℕ) (nexts : List ℕ
 
 -- ---- one edge of the line
 
+pub dart-is : (tails : List ℕ) (v w tail : ℕ) → tail ≡ bit (eqb (getD tails w 0) v) → 2 * w + 1 - tail ≡ dartOf tails w v
+unfolding dartOf
+dart-is tails v w tail t = by-bool (eqb (getD tails w 0) v) (λ a. rw (t, a) (omega arith)) (λ a. rw (t, a) (omega arith))
+
 module _ (m : ℕ) (tails heads : List ℕ) (v : ℕ) where
-  -- its dart, where it may stand there, test by test
+  -- whether it may stand there, test by test
   module _ (seen : List ℕ) (w : ℕ) where
-    pub dart-past : m ≤ w → 512 ≡ dartIf m tails heads v seen w
-    unfolding dartIf fitsOf
-    dart-past h = rw (le-ltb w m h) refl
+    pub fits-past : m ≤ w → false ≡ fitsOf m tails heads v seen w
+    unfolding fitsOf
+    fits-past h = rw (le-ltb w m h) refl
 
     module _ (h : w < m) where
-      pub dart-seen : getD seen w 0 ≡ v + 1 → 512 ≡ dartIf m tails heads v seen w
-      unfolding dartIf fitsOf
-      dart-seen e = rw (lt-ltb w m h, eq-eqb (getD seen w 0) (v + 1) e, and-false (touchesOf tails heads w v)) refl
+      pub fits-seen : getD seen w 0 ≡ v + 1 → false ≡ fitsOf m tails heads v seen w
+      unfolding fitsOf
+      fits-seen e = rw (lt-ltb w m h, eq-eqb (getD seen w 0) (v + 1) e, and-false (touchesOf tails heads w v)) refl
 
-      -- whether its tail and its head stand there, as numbers
-      module _ (n : getD seen w 0 ≡ v + 1 → ⊥) (t e : ℕ) (et : t ≡ bit (eqb (getD tails w 0) v)) (ee : e ≡ bit (eqb (getD heads w 0) v)) where
-        pub dart-there : t + e ≡ 1 → 2 * w + 1 - t ≡ dartIf m tails heads v seen w
-        unfolding dartIf fitsOf touchesOf dartOf
-        dart-there s = by-bool (eqb (getD tails w 0) v)
-            (λ a. rw (lt-ltb w m h, ne-eqb (getD seen w 0) (v + 1) n, et, a) (omega arith))
-            (λ a. by-bool (eqb (getD heads w 0) v)
-            (λ b. rw (lt-ltb w m h, ne-eqb (getD seen w 0) (v + 1) n, et, a, b) (omega arith))
-            (λ b. let z : t ≡ 0 = et ∙ ap bit a in let y : e ≡ 0 = ee ∙ ap bit b in absurd (omega arith)))
+      -- by whether its tail and its head stand there, as numbers
+      pub fits-end : (getD seen w 0 ≡ v + 1 → ⊥) → Apart m tails heads → (tail head : ℕ) → tail ≡ bit (eqb (getD tails w 0) v) → head ≡ bit (eqb (getD heads w 0) v)
+          → eqb (tail + head) 1 ≡ fitsOf m tails heads v seen w
+      unfolding fitsOf touchesOf
+      fits-end n f tail head et eh =
+          by-bool (eqb (getD tails w 0) v)
+          (λ a.
+          by-bool (eqb (getD heads w 0) v) (λ b. absurd (f w h (eqb-true (getD tails w 0) v a ∙ sym (eqb-true (getD heads w 0) v b)))) (λ b. rw (lt-ltb w m h, ne-eqb (getD seen w 0) (v + 1) n, et, eh, a, b) refl))
+          (λ a.
+          by-bool (eqb (getD heads w 0) v) (λ b. rw (lt-ltb w m h, ne-eqb (getD seen w 0) (v + 1) n, et, eh, a, b) refl) (λ b. rw (lt-ltb w m h, ne-eqb (getD seen w 0) (v + 1) n, et, eh, a, b) refl))
 
-        pub dart-none : Apart m tails heads → t + e ≢ 1 → 512 ≡ dartIf m tails heads v seen w
-        unfolding dartIf fitsOf touchesOf
-        dart-none f s = by-bool (eqb (getD tails w 0) v)
-            (λ a. by-bool (eqb (getD heads w 0) v)
-            (λ b. absurd (f w h (eqb-true (getD tails w 0) v a ∙ sym (eqb-true (getD heads w 0) v b))))
-            (λ b. let z : t ≡ 1 = et ∙ ap bit a in let y : e ≡ 0 = ee ∙ ap bit b in absurd (s (omega arith))))
-            (λ a. by-bool (eqb (getD heads w 0) v)
-            (λ b. let z : t ≡ 0 = et ∙ ap bit a in let y : e ≡ 1 = ee ∙ ap bit b in absurd (s (omega arith)))
-            (λ b. rw (lt-ltb w m h, ne-eqb (getD seen w 0) (v + 1) n, a, b) refl))
-
-  fits-below : (seen : List ℕ) (w : ℕ) → fitsOf m tails heads v seen w ≡ true → w < m
+  pub fits-below : (seen : List ℕ) (w : ℕ) → fitsOf m tails heads v seen w ≡ true → w < m
   unfolding fitsOf
   fits-below seen w t = ltb-true w m (and-eq-true-iff (ltb w m) _ .0 t .0)
 
   dart-below : (w b : ℕ) → w < b → dartOf tails w v < 2 * b
   unfolding dartOf
   dart-below w b h = by-bool (eqb (getD tails w 0) v) (λ e. rw e (omega arith)) (λ e. rw e (omega arith))
-
-  -- the dart tells whether it may
-  module _ (seen : List ℕ) (w dart : ℕ) (e : dart ≡ dartIf m tails heads v seen w) where
-    unfit-dart : m ≤ 256 → dart ≡ 512 → fitsOf m tails heads v seen w ≡ false
-    unfolding dartIf
-    unfit-dart small z =
-        by-bool (fitsOf m tails heads v seen w)
-        (λ t.
-        let q = rw t at e in
-        absurd (omega (arith, dart-below w m (fits-below seen w t))))
-        (λ f. f)
-
-    fit-dart : (dart ≡ 512 → ⊥) → (fitsOf m tails heads v seen w ≡ true) × (dart ≡ dartOf tails w v)
-    unfolding dartIf
-    fit-dart n = by-bool (fitsOf m tails heads v seen w) (λ t. (t, rw t at e)) (λ f. absurd (n (rw f at e)))
-
-    pub fit-below : (dart ≡ 512 → ⊥) → w < m
-    fit-below n = fits-below seen w (fit-dart n .0)
 
   -- the edge that a number names, and the marks then
   module _ (seen : List ℕ) (r : Number) where
@@ -187,17 +164,13 @@ module _ (m : ℕ) (tails heads : List ℕ) (v : ℕ) where
     named-none e = (rw e refl, rw e refl)
 
     module _ (w next : ℕ) (e : r ≡ Value w next) where
-      pub named-unfit : m ≤ 256 → (dart : ℕ) → dart ≡ dartIf m tails heads v seen w → dart ≡ 512 → (Unfit next ≡ edgeOf m tails heads v seen r) × (seen ≡ marksOf m tails heads v seen r)
+      pub named-unfit : fitsOf m tails heads v seen w ≡ false → (Unfit next ≡ edgeOf m tails heads v seen r) × (seen ≡ marksOf m tails heads v seen r)
       unfolding edgeOf marksOf
-      named-unfit small dart d z =
-          let f = unfit-dart seen w dart d small z in
-          (rw (e, f) refl, rw (e, f) refl)
+      named-unfit f = (rw (e, f) refl, rw (e, f) refl)
 
-      pub named-edge : (dart : ℕ) → dart ≡ dartIf m tails heads v seen w → (dart ≡ 512 → ⊥) → (Edge dart next ≡ edgeOf m tails heads v seen r) × (set seen w (v + 1) ≡ marksOf m tails heads v seen r)
+      pub named-edge : fitsOf m tails heads v seen w ≡ true → (dart : ℕ) → dart ≡ dartOf tails w v → (Edge dart next ≡ edgeOf m tails heads v seen r) × (set seen w (v + 1) ≡ marksOf m tails heads v seen r)
       unfolding edgeOf marksOf
-      named-edge dart d n =
-          let (t, q) = fit-dart seen w dart d n in
-          (rw (e, t, q) refl, rw (e, t) refl)
+      named-edge t dart d = (rw (e, t, d) refl, rw (e, t) refl)
 
   module _ (seen : List ℕ) (k : ℕ) (h : getD seen k 0 ≤ v + 1) where
     marked-at : (w : ℕ) → getD (set seen w (v + 1)) k 0 ≤ v + 1

@@ -72,10 +72,6 @@ pub record EdgesRead (text : List ℕ) (n m start : ℕ) (tails₀ heads₀ tail
 unfoldable pub fitsOf : ℕ → List ℕ → List ℕ → ℕ → List ℕ → ℕ → Bool
 fitsOf m tails heads v seen w = ltb w m && (touchesOf tails heads w v && not (eqb (getD seen w 0) (v + 1)))
 
--- its dart then, or 512
-unfoldable pub dartIf : ℕ → List ℕ → List ℕ → ℕ → List ℕ → ℕ → ℕ
-dartIf m tails heads v seen w = cond (fitsOf m tails heads v seen w) (dartOf tails w v) 512
-
 -- the edge that a number names: its dart and the place after it, or one that may not stand there; and the marks from then on
 unfoldable pub edgeOf : ℕ → List ℕ → List ℕ → ℕ → List ℕ → Number → Entry
 edgeOf m tails heads v seen Missing = Absent

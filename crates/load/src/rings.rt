@@ -2,8 +2,9 @@
 ghost use mathlib.Core.Path.{_≡_};
 ghost use Prim.Native.Nat.{ℕ, _≤_, _<_};
 ghost use mathlib.Core.List.{[]};
+ghost use Rattle.clauses.specs.Darts.{dartOf};
 ghost use Rattle.text.specs.Reading.{numberAt, listed, closed};
-ghost use Rattle.load.specs.Contracts.{Joint, Apart, Counted, dartIf, edgeOf, marksOf, firstOf, linkOf, isListed, refusalOf, restAt, ringedBy, ringEnd, RingRead, RingsRead};
+ghost use Rattle.load.specs.Contracts.{Joint, Apart, Counted, fitsOf, edgeOf, marksOf, firstOf, linkOf, isListed, refusalOf, restAt, ringedBy, ringEnd, RingRead, RingsRead};
 use crate::lines::Step;
 use answers::Answer;
 use counting::bit;
@@ -18,31 +19,36 @@ enum Entry {
     Absent,
 }
 
-// The dart of edge w at vertex v; 512 where w may not stand on v's line: it has no end there, or stood on the line before.
-// Which of its two ends stands there takes no branch, since nothing foretells it.
-fn dart_at(
+// Whether edge w may stand on v's line: it has an end there, and did not stand on the line before.
+// Which of its two ends that is takes no branch, since nothing foretells it.
+fn fits(
     w: usize,
     v: usize,
     m: usize,
     tails: &[u16; 256],
     heads: &[u16; 256],
     seen: &[u16; 256],
-) -> usize
+) -> bool
     requires { ⌜ (m ≤ 256) × (v < 128) × Apart m (now tails) (now heads) ⌝ }
-    ensures { λ r. ⌜ r ≡ dartIf m (now (tails .entry)) (now (heads .entry)) v (now (seen .entry)) w ⌝ }
+    ensures { λ r. ⌜ r ≡ fitsOf m (now (tails .entry)) (now (heads .entry)) v (now (seen .entry)) w ⌝ }
 {
     if m <= w {
-        return 512;
+        return false;
     }
     if wide(seen[w]) == v + 1 {
-        return 512;
+        return false;
     }
     let tail = bit(wide(tails[w]) == v);
     let head = bit(wide(heads[w]) == v);
-    if tail + head != 1 {
-        return 512;
-    }
-    2 * w + 1 - tail
+    tail + head == 1
+}
+
+// The dart of edge w at v, which is one of its ends.
+fn dart_at(w: usize, v: usize, tails: &[u16; 256]) -> usize
+    requires { ⌜ w < 256 ⌝ }
+    ensures { λ r. ⌜ r ≡ dartOf (now (tails .entry)) w v ⌝ }
+{
+    2 * w + 1 - bit(wide(tails[w]) == v)
 }
 
 // The edge whose number stands at a place of v's line, marked as seen on it if it may stand there.
@@ -64,12 +70,11 @@ fn edge_at(
         Number::Missing => Entry::Absent,
         Number::Value(value, next) => {
             let w = wide(value);
-            let dart = dart_at(w, v, m, tails, heads, seen);
-            if dart == 512 {
+            if !fits(w, v, m, tails, heads, seen) {
                 return Entry::Unfit(next);
             }
             seen[w] = (v + 1) as u16;
-            Entry::Edge(dart, next)
+            Entry::Edge(dart_at(w, v, tails), next)
         }
     }
 }

@@ -12,7 +12,7 @@ use Rattle.text.specs.Keys.{wireKey}
 use Rattle.answers.specs.declared.Answer.the-variants.{BadLayout, BadEdge}
 use Rattle.load.specs.Load.{edgeLines}
 use Rattle.sheet.specs.Darts.{sheetOf}
-use Rattle.load.specs.Contracts.{noNexts, Joint, Counted, oneMore}
+use Rattle.load.specs.Contracts.{noNexts, Joint, Counted}
 use Rattle.load.proofs.Turns.{edges-refused, edges-next, edges-over, edge-line-bad, Joins, edge-bad, edge-good, joins-means, joint-more}
 use Rattle.load.proofs.Ends.{counted-most, counted-more, more-length, more-other}
 use borrow.Author.Needs.{needs}

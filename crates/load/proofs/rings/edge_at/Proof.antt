@@ -1,9 +1,10 @@
-use Prim.Native.Nat.{ℕ}
+use Prim.Native.Nat.{ℕ, _<_}
 use mathlib.Core.Path.{_≡_, sym, ap, _∙_}
 use native.Mathlib.Omega.{arith}
 use Rattle.text.specs.declared.Number.the-variants.{Value}
 use Rattle.text.specs.Reading.{numberAt}
-use Rattle.load.proofs.Walking.{fit-below, named-none, named-unfit, named-edge}
+use Rattle.load.proofs.Walking.{fits-below, named-none, named-unfit, named-edge}
+use borrow.Author.Tests.{not-true, not-false}
 use borrow.Author.Needs.{needs}
 use Rattle.load.proofs.rings.edge_at.Statement.{statement}
 use Rattle.load.proofs.rings.edge_at.Tie as tie
@@ -26,15 +27,14 @@ enum-known-read c = search needs
 wide-requires : tie.Need-wide-requires
 wide-requires c κs = search needs
 
-dart-at-requires : tie.Need-dart-at-requires
-dart-at-requires c κs = search needs
+fits-requires : tie.Need-fits-requires
+fits-requires c κs = search needs
 
 returns : tie.Need-returns
 returns c =
     let w = c .before .before .before in
-    let start = w .before .before .before .before .before .before in
-    let a = start .args in
-    named-unfit (a .m) (a .tails .now) (a .heads .now) (a .v) (a .seen .now) _ _ _ (value w) (start .pre .0) _ (c .before .dart-at .ensures) (c .if1 .taken)
+    let a = w .before .before .before .before .before .before .args in
+    named-unfit (a .m) (a .tails .now) (a .heads .now) (a .v) (a .seen .now) _ _ _ (value w) (sym (c .before .fits2 .ensures) ∙ not-true _ (c .if1 .taken))
 
 add-seen : tie.Need-add-seen
 add-seen c = search needs
@@ -45,8 +45,18 @@ cast-seen c = search needs
 mul-seen : tie.Need-mul-seen
 mul-seen c = search needs
 
+-- an edge that may stand there is one of m
+below : (c : tie.Else1) → c .before .before .before .wide .result < 256
+below c =
+    let start = c .before .before .before .before .before .before .before .before .before in
+    let a = start .args in
+    omega (arith, start .pre .0, fits-below (a .m) (a .tails .now) (a .heads .now) (a .v) (a .seen .now) (c .before .before .before .wide .result) (sym (c .before .fits2 .ensures) ∙ not-false _ (c .if1 .left)))
+
 element-write-seen : tie.Need-element-write-seen
-element-write-seen c = let a = c .before .before .before .before .before .before .before .before .before .args in omega (arith, fit-below (a .m) (a .tails .now) (a .heads .now) (a .v) (a .seen .now) (c .before .before .before .wide .result) _ (c .before .dart-at .ensures) (c .if1 .left))
+element-write-seen c = omega (arith, below c)
+
+dart-at-requires : tie.Need-dart-at-requires
+dart-at-requires c κs = below c
 
 returns-2 : tie.Need-returns-2
 returns-2 c =
@@ -55,9 +65,10 @@ returns-2 c =
 
 returns-3 : tie.Need-returns-3
 returns-3 c =
-    let w = c .before .before .before in
+    let test = c .before in
+    let w = test .before .before .before in
     let a = w .before .before .before .before .before .before .args in
-    named-edge (a .m) (a .tails .now) (a .heads .now) (a .v) (a .seen .now) _ _ _ (value w) _ (c .before .dart-at .ensures) (c .if1 .left)
+    named-edge (a .m) (a .tails .now) (a .heads .now) (a .v) (a .seen .now) _ _ _ (value w) (sym (test .before .fits2 .ensures) ∙ not-false _ (test .if1 .left)) _ (c .dart-at .ensures)
 
 pub edge-at-spec : {M : Type 1} → statement M
 edge-at-spec =
@@ -67,11 +78,12 @@ edge-at-spec =
     enum-told
     enum-known-read
     wide-requires
-    dart-at-requires
+    fits-requires
     returns
     add-seen
     cast-seen
     mul-seen
     element-write-seen
+    dart-at-requires
     returns-2
     returns-3)
