@@ -1,11 +1,10 @@
 -- The tests of `levelsOf` and what they say. Assumes nothing.
-use mathlib.Core.Path.{_≡_, refl, sym, subst, _∙_}
+use mathlib.Core.Path.{_≡_, refl, sym, subst}
 use mathlib.Core.Logic.{by-cases}
 use mathlib.Core.Bool.{Bool, true, false, _&&_, and-eq-true-iff, true≢false}
 use mathlib.Core.List.{List}
-use Prim.Native.Nat.{ℕ, zero, suc, _+_, _≤_, _<_}
+use Prim.Native.Nat.{ℕ, zero, suc, _≤_, _<_}
 use native.Mathlib.Decide.{ℕ-discrete}
-use native.Mathlib.Numerals.{add-one}
 use native.Mathlib.Omega.{arith}
 use lib.Dec.{ltb}
 use lib.ListN.{getD}
@@ -37,23 +36,7 @@ module _ (nodes : ℕ) (from to : List ℕ) where
       rw (lt-ltb _ _ (h k (omega arith) .0), lt-ltb _ _ (h k (omega arith) .1))
       (joins-true k (λ j l. h j (omega arith)))
 
-  -- one edge more
-  pub joins-kept : (k : ℕ) → Joins nodes from to k → joins nodes (k + 1) from to ≡ joins nodes k from to
-  unfolding joins
-  joins-kept k (f, t) = rw (add-one k, lt-ltb _ _ f, lt-ltb _ _ t) refl
-
-  pub joins-fails : (k : ℕ) → ¬ Joins nodes from to k → joins nodes (k + 1) from to ≡ false
-  joins-fails k n = go (joins nodes (k + 1) from to) refl
-    where
-      go : (b : Bool) → joins nodes (k + 1) from to ≡ b → b ≡ false
-      go true t = absurd (n (joins-all (k + 1) t k (omega arith)))
-      go false t = refl
-
   module _ (edges : ℕ) where
-    pub within-joins : nodes ≤ 256 → edges ≤ 256 → withinOf nodes edges from to ≡ joins nodes edges from to
-    unfolding withinOf
-    within-joins n e = rw (le-leb _ _ n, le-leb _ _ e) refl
-
     pub within-is : withinOf nodes edges from to ≡ true → Within nodes edges from to
     unfolding withinOf
     within-is t =
@@ -67,7 +50,8 @@ module _ (nodes : ℕ) (from to : List ℕ) where
         }
 
     pub within-true : Within nodes edges from to → withinOf nodes edges from to ≡ true
-    within-true w = within-joins (w .few-nodes) (w .few-edges) ∙ joins-true edges (λ j l. (w .from-in j l, w .to-in j l))
+    unfolding withinOf
+    within-true w = rw (le-leb _ _ (w .few-nodes), le-leb _ _ (w .few-edges)) (joins-true edges (λ j l. (w .from-in j l, w .to-in j l)))
 
     -- it fails where something is out of its bounds
     pub within-false : ¬ Within nodes edges from to → withinOf nodes edges from to ≡ false

@@ -14,7 +14,7 @@ pub struct Layering {
     pub level: [u16; 256],
 }
 
-// Whether the counts are within the arrays and each edge joins two nodes. All edges are looked at, which takes no branch.
+// Whether the counts are within the arrays and each edge joins two nodes.
 fn within(nodes: usize, edges: usize, from: &[u16; 256], to: &[u16; 256]) -> bool
     ensures { λ r. ⌜ r ≡ withinOf nodes edges (now (from .entry)) (now (to .entry)) ⌝ }
 {
@@ -24,19 +24,17 @@ fn within(nodes: usize, edges: usize, from: &[u16; 256], to: &[u16; 256]) -> boo
     if 256 < edges {
         return false;
     }
-    let limit = nodes as u16;
-    let mut inside = true;
     let mut k = 0;
     while k < edges {
-        if limit <= from[k] {
-            inside = false;
+        if nodes <= wide(from[k]) {
+            return false;
         }
-        if limit <= to[k] {
-            inside = false;
+        if nodes <= wide(to[k]) {
+            return false;
         }
         k += 1;
     }
-    inside
+    true
 }
 
 // A list of edges for each node, by one end of the edges: the first edge at the node, and after each edge the next.

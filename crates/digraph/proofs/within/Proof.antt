@@ -1,19 +1,18 @@
--- `within` meets its contract: whether the edges before k join nodes is known. Assumes nothing.
-use mathlib.Core.Path.{_≡_, refl, sym, _∙_}
-use mathlib.Core.Logic.{⊎-elim}
-use Prim.Native.Nat.{_-_, _≤_}
+-- `within` meets its contract: the edges before k join nodes. Assumes nothing.
+use mathlib.Core.Path.{sym}
+use Prim.Native.Nat.{ℕ, _-_, _≤_, _<_}
 use native.Mathlib.Omega.{arith}
+use borrow.Author.Count.{below-more}
 use borrow.Author.Needs.{needs}
-use Rattle.digraph.specs.Relaxed.{joins}
-use Rattle.digraph.proofs.Tests.{joins-kept, joins-fails, within-joins, within-false}
+use Rattle.digraph.proofs.Tests.{Joins, within-true, within-false}
 use Rattle.digraph.proofs.within.Statement.{statement}
 use Rattle.digraph.proofs.within.Tie as tie
 
 abbrev Inv-loop : tie.InvT-loop
-Inv-loop nodes edges from to limit inside₀ k₀ inside k = (k ≤ edges) × (inside ≡ joins nodes k from to)
+Inv-loop nodes edges from to k₀ k = (k ≤ edges) × ((j : ℕ) → j < k → Joins nodes from to j)
 
 abbrev μ-loop : tie.MeasureT-loop
-μ-loop nodes edges from to limit inside₀ k₀ inside k = edges - k
+μ-loop nodes edges from to k₀ k = edges - k
 
 returns : tie.Need-returns Inv-loop μ-loop
 returns c = sym (within-false _ _ _ _ (λ W. omega (arith, W .few-nodes, c .if1 .taken)))
@@ -21,24 +20,34 @@ returns c = sym (within-false _ _ _ _ (λ W. omega (arith, W .few-nodes, c .if1 
 returns-2 : tie.Need-returns-2 Inv-loop μ-loop
 returns-2 c = sym (within-false _ _ _ _ (λ W. omega (arith, W .few-edges, c .if2 .taken)))
 
-cast-limit : tie.Need-cast-limit Inv-loop μ-loop
-cast-limit c = search needs
-
 loop-holds : tie.Need-loop-holds Inv-loop μ-loop
-unfolding joins
-loop-holds c = (search needs, refl)
+loop-holds c = (search needs, λ j h. absurd (omega arith))
 
-mul-if3 : tie.Need-mul-if3 Inv-loop μ-loop
-mul-if3 c = search needs
+mul-wide : tie.Need-mul-wide Inv-loop μ-loop
+mul-wide c = search needs
 
-element-copy-out-if3 : tie.Need-element-copy-out-if3 Inv-loop μ-loop
-element-copy-out-if3 c = search needs
+element-copy-out-wide : tie.Need-element-copy-out-wide Inv-loop μ-loop
+element-copy-out-wide c = search needs
 
-mul-if4 : tie.Need-mul-if4 Inv-loop μ-loop
-mul-if4 c = search needs
+wide-requires : tie.Need-wide-requires Inv-loop μ-loop
+wide-requires c κs = search needs
 
-element-copy-out-if4 : tie.Need-element-copy-out-if4 Inv-loop μ-loop
-element-copy-out-if4 c = search needs
+returns-3 : tie.Need-returns-3 Inv-loop μ-loop
+returns-3 c = sym (within-false _ _ _ _ (λ W. omega (arith, W .from-in (c .before .before .before .before .loop .k) (c .before .before .before .loop-test .taken), c .before .wide .ensures .0, c .if3 .taken)))
+
+mul-wide-2 : tie.Need-mul-wide-2 Inv-loop μ-loop
+mul-wide-2 c = search needs
+
+element-copy-out-wide-2 : tie.Need-element-copy-out-wide-2 Inv-loop μ-loop
+element-copy-out-wide-2 c = search needs
+
+wide-requires-2 : tie.Need-wide-requires-2 Inv-loop μ-loop
+wide-requires-2 c κs = search needs
+
+returns-4 : tie.Need-returns-4 Inv-loop μ-loop
+returns-4 c =
+    let at-loop = c .before .before .before .before .before .before .before in
+    sym (within-false _ _ _ _ (λ W. omega (arith, W .to-in (at-loop .loop .k) (c .before .before .before .before .before .before .loop-test .taken), c .before .wide2 .ensures .0, c .if4 .taken)))
 
 add-k : tie.Need-add-k Inv-loop μ-loop
 add-k c = search needs
@@ -48,26 +57,22 @@ loop-less c = search needs
 
 loop-again : tie.Need-loop-again Inv-loop μ-loop
 loop-again c =
-    let first = c .before .before in
-    let at-loop = first .before .before .before in
-    let k = at-loop .loop .k in
-    let a = at-loop .before .before .before .args in
-    let fails = joins-fails (a .nodes) (a .from .now) (a .to .now) k in
-    let kept = joins-kept (a .nodes) (a .from .now) (a .to .now) k in (
-      search needs,
-      ⊎-elim (λ t. rw (t .1) (sym (fails (λ j. omega (arith, j .1, t .0 .taken)))))
-          (λ t.
-          rw (t .1)
-          (⊎-elim (λ f. rw (f .1) (sym (fails (λ j. omega (arith, j .0, f .0 .taken))))) (λ f. rw (f .1) (at-loop .loop .inv .1 ∙ sym (kept (omega (arith, f .0 .left), omega (arith, t .0 .left))))) (first .if3 .came)))
-          (c .if4 .came),
+    let at-loop = c .before .before .before .before .before .before .before in
+    let at-else = c .before .before .before in (
+      omega (arith, at-else .before .before .before .loop-test .taken),
+      below-more _ _ (at-loop .loop .inv .1)
+          (omega (arith, at-else .before .wide .ensures .0, at-else .if3 .left), omega (arith, c .before .wide2 .ensures .0, c .if4 .left)),
     )
 
-returns-3 : tie.Need-returns-3 Inv-loop μ-loop
-returns-3 c =
+returns-5 : tie.Need-returns-5 Inv-loop μ-loop
+returns-5 c =
     let at-loop = c .before in
-    let a = at-loop .before .before .before .args in
-    let z : at-loop .loop .k ≡ a .edges = omega arith in
-    rw z at (at-loop .loop .inv .1) ∙ sym (within-joins (a .nodes) (a .from .now) (a .to .now) (a .edges) (omega (arith, at-loop .before .before .if1 .left)) (omega (arith, at-loop .before .if2 .left)))
+    sym (within-true _ _ _ _ (record {
+      few-nodes = omega (arith, at-loop .before .before .if1 .left);
+      few-edges = omega (arith, at-loop .before .if2 .left);
+      from-in = λ k h. at-loop .loop .inv .1 k (omega (arith, c .loop-test .left)) .0;
+      to-in = λ k h. at-loop .loop .inv .1 k (omega (arith, c .loop-test .left)) .1;
+    }))
 
 pub within-spec : {M : Type 1} → statement M
 within-spec =
@@ -77,13 +82,16 @@ within-spec =
     μ-loop
     returns
     returns-2
-    cast-limit
     loop-holds
-    mul-if3
-    element-copy-out-if3
-    mul-if4
-    element-copy-out-if4
+    mul-wide
+    element-copy-out-wide
+    wide-requires
+    returns-3
+    mul-wide-2
+    element-copy-out-wide-2
+    wide-requires-2
+    returns-4
     add-k
     loop-less
     loop-again
-    returns-3)
+    returns-5)
