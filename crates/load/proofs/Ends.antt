@@ -25,7 +25,7 @@ pub more-length : (v : ℕ) (degrees : List ℕ) → length (oneMore v degrees) 
 unfolding oneMore
 more-length v degrees = length-set degrees v (getD degrees v 0 + 1)
 
-pub more-same : (v : ℕ) (degrees : List ℕ) → v < length degrees → getD (oneMore v degrees) v 0 ≡ getD degrees v 0 + 1
+more-same : (v : ℕ) (degrees : List ℕ) → v < length degrees → getD (oneMore v degrees) v 0 ≡ getD degrees v 0 + 1
 unfolding oneMore
 more-same v degrees h = getD-set-same degrees v (getD degrees v 0 + 1) 0 h
 

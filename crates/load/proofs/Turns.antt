@@ -34,7 +34,7 @@ use Rattle.load.specs.Rings.{isRotation, linkFrom, linkRing}
 use Rattle.load.specs.Load.{Parsed, emptySheet, withEdge, withNexts, judged, ringLines, edgeLines, withCount, loaded}
 use Rattle.load.specs.Load.Parsed.{refused}
 use Rattle.sheet.specs.Darts.{sheetOf}
-use Rattle.load.specs.Contracts.{noNexts, countOf, Joint, Counted, afterEdges, EdgesRead, afterRings, fitFrom, linkedFrom, linked, Ringed, ringed, unringed, ringedBy, linkedOn, ringFrom, RingRead}
+use Rattle.load.specs.Contracts.{noNexts, countOf, Apart, Counted, afterEdges, EdgesRead, afterRings, fitFrom, linkedFrom, linked, Ringed, ringed, unringed, ringedBy, linkedOn, ringFrom, RingRead}
 use Rattle.load.proofs.Occurrences.{rotation-if, rotation-length, rotation-fits}
 
 -- ---- the count lines
@@ -126,30 +126,18 @@ module _ (text : List ℕ) (n m : ℕ) (whole : Parsed) (at k : ℕ) (tails head
           let z : m - k ≡ suc (m - (k + 1)) = omega arith in
           rw test at (sym (two-is (refused BadLayout) _ (lineAt wireKey text at) a b next e) ∙ rw z at rest)
 
-pub joins-means : (n a b : ℕ) → Joins n a b ≡ true → (a < n) × (b < n) × (a ≢ b)
+pub joins-means : (n a b : ℕ) → Joins n a b ≡ true → (a < n) × (b < n) × (b ≢ a)
 joins-means n a b j =
     let (inside, apart) = and-eq-true-iff (ltb a n && ltb b n) (not (eqb a b)) .0 j in
     let (ha, hb) = and-eq-true-iff (ltb a n) (ltb b n) .0 inside in
-    (ltb-true a n ha, ltb-true b n hb, eqb-false a b (not-true (eqb a b) apart))
+    (ltb-true a n ha, ltb-true b n hb, λ e. eqb-false a b (not-true (eqb a b) apart) (sym e))
 
 -- one edge more
-pub joint-more : (n k a b : ℕ) (tails heads : List ℕ) → k < length tails → k < length heads → Joins n a b ≡ true
-    → ((i : ℕ) → i < k → Joint n tails heads i) → (i : ℕ) → i < k + 1 → Joint n (set tails k a) (set heads k b) i
-joint-more n k a b tails heads ht hh j old i l =
-    let (ha, hb, apart) = joins-means n a b j in
+pub apart-more : (k a b : ℕ) (tails heads : List ℕ) → k < length tails → k < length heads → b ≢ a → Apart k tails heads → Apart (k + 1) (set tails k a) (set heads k b)
+apart-more k a b tails heads ht hh n old i l =
     by-cases (ℕ-discrete i k)
-    (λ e. rw e (record {
-      tail-in = rw (getD-set-same tails k a 0 ht) ha;
-      head-in = rw (getD-set-same heads k b 0 hh) hb;
-      apart = rw (getD-set-same tails k a 0 ht, getD-set-same heads k b 0 hh) apart;
-    }))
-    (λ e.
-    let o = old i (omega arith) in
-    record {
-      tail-in = rw (getD-set-other tails k i a 0 e) (o .tail-in);
-      head-in = rw (getD-set-other heads k i b 0 e) (o .head-in);
-      apart = rw (getD-set-other tails k i a 0 e, getD-set-other heads k i b 0 e) (o .apart);
-    })
+    (λ e. rw (e, getD-set-same tails k a 0 ht, getD-set-same heads k b 0 hh) (λ q. n (sym q)))
+    (λ e. rw (getD-set-other tails k i a 0 e, getD-set-other heads k i b 0 e) (old i (omega arith)))
 
 module _ (text : List ℕ) (n m start : ℕ) (tails₀ heads₀ tails heads degrees : List ℕ) where
   refused-next : (a : Answer) (at : ℕ) → Refused a ≡ Next at → ⊥
@@ -158,12 +146,12 @@ module _ (text : List ℕ) (n m start : ℕ) (tails₀ heads₀ tails heads degr
   pub edges-refused : (a : Answer) → refused a ≡ edgeLines m text (sheetOf n m tails₀ heads₀ noNexts) 0 start
       → EdgesRead text n m start tails₀ heads₀ tails heads degrees (Refused a)
   unfolding afterEdges
-  edges-refused a e = record { rest = e; joined = λ at q. absurd (refused-next a at q); counted = λ at q. absurd (refused-next a at q) }
+  edges-refused a e = record { rest = e; apart = λ at q. absurd (refused-next a at q); counted = λ at q. absurd (refused-next a at q) }
 
   pub edges-next : (at : ℕ) → ringLines n text (sheetOf n m tails heads noNexts) 0 at ≡ edgeLines m text (sheetOf n m tails₀ heads₀ noNexts) 0 start
-      → ((k : ℕ) → k < m → Joint n tails heads k) → Counted m tails heads degrees → EdgesRead text n m start tails₀ heads₀ tails heads degrees (Next at)
+      → Apart m tails heads → Counted m tails heads degrees → EdgesRead text n m start tails₀ heads₀ tails heads degrees (Next at)
   unfolding afterEdges
-  edges-next at e j d = record { rest = e; joined = λ a q. j; counted = λ a q. d }
+  edges-next at e j d = record { rest = e; apart = λ a q. j; counted = λ a q. d }
 
 -- what load goes on to
 module _ (text : List ℕ) (n m : ℕ) (tails heads : List ℕ) (r : Step) (whole : Parsed) (rest : afterEdges text n m tails heads r ≡ whole) where
@@ -178,10 +166,6 @@ module _ (text : List ℕ) (n m : ℕ) (tails heads : List ℕ) (r : Step) (whol
 pub no-edges : (n m : ℕ) → sheetOf n m (replicate 256 0) (replicate 256 0) noNexts ≡ emptySheet n m
 unfolding noNexts emptySheet
 no-edges n m = refl
-
--- vertices of n are vertices of more
-pub joint-wider : (n b : ℕ) (tails heads : List ℕ) (k : ℕ) → n ≤ b → Joint n tails heads k → Joint b tails heads k
-joint-wider n b tails heads k h j = record { tail-in = omega (arith, j .tail-in); head-in = omega (arith, j .head-in); apart = j .apart }
 
 -- ---- the ring lines
 

@@ -38,13 +38,7 @@ countOf most line =
 
 -- ---- the edge lines
 
--- edge k joins two different vertices of n
-pub record Joint (n : ℕ) (tails heads : List ℕ) (k : ℕ) : Type 0 where
-  pub tail-in : getD tails k 0 < n
-  pub head-in : getD heads k 0 < n
-  pub apart : getD tails k 0 ≢ getD heads k 0
-
--- no edge has both ends at one vertex
+-- none of m edges has both ends at one vertex
 abbrev pub Apart : ℕ → List ℕ → List ℕ → Type 0
 Apart m tails heads = (k : ℕ) → k < m → getD tails k 0 ≢ getD heads k 0
 
@@ -63,7 +57,7 @@ afterEdges text n m tails heads (Refused a) = refused a
 
 pub record EdgesRead (text : List ℕ) (n m start : ℕ) (tails₀ heads₀ tails heads degrees : List ℕ) (r : Step) : Type 0 where
   pub rest : afterEdges text n m tails heads r ≡ edgeLines m text (sheetOf n m tails₀ heads₀ noNexts) 0 start
-  pub joined : (at : ℕ) → r ≡ Next at → (k : ℕ) → k < m → Joint n tails heads k
+  pub apart : (at : ℕ) → r ≡ Next at → Apart m tails heads
   pub counted : (at : ℕ) → r ≡ Next at → Counted m tails heads degrees
 
 -- ---- the ring lines

@@ -1,9 +1,9 @@
 // Sheets as text: load.
 ghost use mathlib.Core.Path.{_≡_};
-ghost use Prim.Native.Nat.{ℕ, _≤_, _<_};
+ghost use Prim.Native.Nat.{_≤_};
 ghost use Rattle.load.specs.Load.{refused, emptySheet, judged, ringLines, edgeLines, loaded, load};
 ghost use Rattle.sheet.specs.Darts.{sheetOf};
-ghost use Rattle.load.specs.Contracts.{noNexts, Joint, Counted};
+ghost use Rattle.load.specs.Contracts.{noNexts, Apart, Counted};
 use answers::Answer;
 use lines::Count;
 use lines::Step;
@@ -74,7 +74,7 @@ fn load_rings(
     degrees: &[u16; 128],
     present: Sheet,
 ) -> Loaded
-    requires { ⌜ (n ≤ 128) × (m ≤ 256) × ((k : ℕ) → k < m → Joint n (now tails) (now heads) k) × Counted m (now tails) (now heads) (now degrees) ⌝ }
+    requires { ⌜ (n ≤ 128) × (m ≤ 256) × Apart m (now tails) (now heads) × Counted m (now tails) (now heads) (now degrees) ⌝ }
     ensures { λ r. ⌜ r ≡ loaded present (ringLines n (now (text .entry)) (sheetOf n m (now (tails .entry)) (now (heads .entry)) noNexts) 0 at) ⌝ }
 {
     let mut nexts = [0u16; 512];

@@ -1,10 +1,10 @@
 // The lines `around=`: the edges of each vertex clockwise, read into the next-darts.
 ghost use mathlib.Core.Path.{_≡_};
-ghost use Prim.Native.Nat.{ℕ, _≤_, _<_};
+ghost use Prim.Native.Nat.{_≤_, _<_};
 ghost use mathlib.Core.List.{[]};
 ghost use Rattle.clauses.specs.Darts.{dartOf};
 ghost use Rattle.text.specs.Reading.{numberAt, listed, closed};
-ghost use Rattle.load.specs.Contracts.{Joint, Apart, Counted, fitsOf, edgeOf, marksOf, firstOf, linkOf, isListed, refusalOf, restAt, ringedBy, ringEnd, RingRead, RingsRead};
+ghost use Rattle.load.specs.Contracts.{Apart, Counted, fitsOf, edgeOf, marksOf, firstOf, linkOf, isListed, refusalOf, restAt, ringedBy, ringEnd, RingRead, RingsRead};
 use crate::lines::Step;
 use answers::Answer;
 use counting::bit;
@@ -192,7 +192,7 @@ pub fn ring_lines(
     degrees: &[u16; 128],
     nexts: &mut [u16; 512],
 ) -> Step
-    requires { ⌜ (n ≤ 128) × (m ≤ 256) × ((k : ℕ) → k < m → Joint n (now tails) (now heads) k) × Counted m (now tails) (now heads) (now degrees) ⌝ }
+    requires { ⌜ (n ≤ 128) × (m ≤ 256) × Apart m (now tails) (now heads) × Counted m (now tails) (now heads) (now degrees) ⌝ }
     ensures { λ r. ⌜ RingsRead (now (text .entry)) n m start (now (tails .entry)) (now (heads .entry)) (now (nexts .entry)) (now (nexts .exit)) r ⌝ }
 {
     let mut seen = [0u16; 256];

@@ -24,7 +24,7 @@ load-rings-requires : tie.Need-load-rings-requires
 load-rings-requires c κs =
     let step = c .before .before .before .before in
     let read = step .before .before .edge-lines .ensures in
-    (search needs, search needs, read .joined _ (step .step2 .given .1), read .counted _ (step .step2 .given .1))
+    (search needs, search needs, read .apart _ (step .step2 .given .1), read .counted _ (step .step2 .given .1))
 
 returns : tie.Need-returns
 returns c =

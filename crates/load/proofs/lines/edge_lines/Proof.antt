@@ -1,4 +1,4 @@
-use Prim.Native.Nat.{ℕ, _≤_, _<_, _-_}
+use Prim.Native.Nat.{_≤_, _<_, _-_}
 use mathlib.Core.Path.{_≡_, refl, sym, _∙_}
 use mathlib.Core.Bool.{true}
 use mathlib.Core.Logic.{_≢_}
@@ -12,8 +12,8 @@ use Rattle.text.specs.Keys.{wireKey}
 use Rattle.answers.specs.declared.Answer.the-variants.{BadLayout, BadEdge}
 use Rattle.load.specs.Load.{edgeLines}
 use Rattle.sheet.specs.Darts.{sheetOf}
-use Rattle.load.specs.Contracts.{noNexts, Joint, Counted}
-use Rattle.load.proofs.Turns.{edges-refused, edges-next, edges-over, edge-line-bad, Joins, edge-bad, edge-good, joins-means, joint-more}
+use Rattle.load.specs.Contracts.{noNexts, Apart, Counted}
+use Rattle.load.proofs.Turns.{edges-refused, edges-next, edges-over, edge-line-bad, Joins, edge-bad, edge-good, joins-means, apart-more}
 use Rattle.load.proofs.Ends.{counted-most, counted-more, more-length, more-other}
 use borrow.Author.Needs.{needs}
 use Rattle.load.proofs.lines.edge_lines.Statement.{statement}
@@ -22,7 +22,7 @@ use Rattle.load.proofs.lines.edge_lines.Tie as tie
 abbrev Inv-loop : tie.InvT-loop
 Inv-loop text start n m tails₀ heads₀ degrees₀ at₀ k₀ t14 tails heads degrees at k =
     (k ≤ m) × (edgeLines (m - k) text (sheetOf n m tails heads noNexts) k at ≡ edgeLines m text (sheetOf n m tails₀ heads₀ noNexts) 0 start)
-    × ((i : ℕ) → i < k → Joint n tails heads i) × (length tails ≡ 256) × (length heads ≡ 256) × (length degrees ≡ 128) × Counted k tails heads degrees
+    × Apart k tails heads × (length tails ≡ 256) × (length heads ≡ 256) × (length degrees ≡ 128) × Counted k tails heads degrees
 
 abbrev μ-loop : tie.MeasureT-loop
 μ-loop text start n m tails₀ heads₀ degrees₀ at₀ k₀ t14 tails heads degrees at k = m - k
@@ -85,7 +85,7 @@ ends c =
     let read = c .before .before .before in
     let a = read .before .before .before .before .before .before .before in
     let (tail, head, apart) = joins-means (a .args .n) (read .read .given .0 .0) (read .read .given .0 .1 .0) (joined c) in
-    (omega (arith, a .pre .0), omega (arith, a .pre .0), λ e. apart (sym e))
+    (omega (arith, a .pre .0), omega (arith, a .pre .0), apart)
 
 count-end-requires : tie.Need-count-end-requires Inv-loop μ-loop
 count-end-requires c κs =
@@ -116,20 +116,22 @@ loop-again c =
     let (tail, head, apart) = ends test in
     let once = c .before .before .count-end .ensures in
     let twice = c .count-end2 .ensures in
-    let inv = loop .loop .inv in (
+    let now = loop .loop in
+    let inv = now .inv in (
       search needs,
       edge-good _ _ _ _ _ _ _ _ (inv .1) (line .before .before .loop-test .taken) _ _ _ (pair read) (joined test),
-      joint-more _ _ _ _ _ _ (omega arith) (omega arith) (joined test) (inv .2),
+      apart-more (now .k) _ _ (now .tails) (now .heads) (omega arith) (omega arith) apart (inv .2),
       simp length-set (inv .3),
       simp length-set (inv .4),
       rw (twice, once) (more-length _ _ ∙ more-length _ _ ∙ inv .5),
-      rw (twice, once) (counted-more _ _ _ _ _ _ (omega arith) (omega arith) tail head apart (inv .5) (inv .6)),
+      rw (twice, once) (counted-more (now .k) _ _ (now .tails) (now .heads) (now .degrees) (omega arith) (omega arith) tail head apart (inv .5) (inv .6)),
     )
 
 returns-3 : tie.Need-returns-3 Inv-loop μ-loop
 returns-3 c =
     let loop = c .before in
-    edges-next _ _ _ _ _ _ _ _ _ _ (edges-over _ _ _ _ _ _ _ _ (loop .loop .inv .1) (c .loop-test .left)) (λ k l. loop .loop .inv .2 k (omega arith)) (let z : loop .loop .k ≡ loop .before .before .args .m = omega arith in rw (← z) (loop .loop .inv .6))
+    let z : loop .loop .k ≡ loop .before .before .args .m = omega arith in
+    edges-next _ _ _ _ _ _ _ _ _ _ (edges-over _ _ _ _ _ _ _ _ (loop .loop .inv .1) (c .loop-test .left)) (rw (← z) (loop .loop .inv .2)) (rw (← z) (loop .loop .inv .6))
 
 pub edge-lines-spec : {M : Type 1} → statement M
 edge-lines-spec =

@@ -40,7 +40,7 @@ wide-requires : tie.Need-wide-requires Inv-loop μ-loop
 wide-requires c κs = search needs
 
 ring-line-requires : tie.Need-ring-line-requires Inv-loop μ-loop
-ring-line-requires c κs = (search needs, search needs, λ k l. c .before .before .before .before .before .before .before .pre .2 k l .apart)
+ring-line-requires c κs = (search needs, search needs, c .before .before .before .before .before .before .before .pre .2)
 
 enum-known-step : tie.Need-enum-known-step Inv-loop μ-loop
 enum-known-step c = search needs
