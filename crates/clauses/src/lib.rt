@@ -5,7 +5,9 @@ ghost use Prim.Native.Nat.{_*_, _≤_, _<_};
 ghost use lib.Dec.{eqb, ltb};
 ghost use lib.ListN.{length};
 ghost use Rattle.counting.specs.Below.{allBelow, tabulate};
+ghost use Rattle.clauses.specs.Darts.{dartOf};
 ghost use Rattle.clauses.specs.Contracts.{limitsOf, joinsAt, zeroAt, unusedOf, Ends, dartTable, vertexOf, walkOf, endOf, poleAt, polesOf, rootedOf};
+use counting::bit;
 use counting::wide;
 
 // Whether the counts of vertices and edges are within limits.
@@ -79,6 +81,14 @@ pub fn unused_zero(m: usize, tails: &[u16; 256], heads: &[u16; 256], nexts: &[u1
         return false;
     }
     zero_from(2 * m, nexts)
+}
+
+// The dart of edge k at vertex v, which is one of its ends. Which of its two darts that is takes no branch, since nothing foretells it.
+pub fn dart_at(tails: &[u16; 256], k: usize, v: usize) -> u16
+    requires { ⌜ k < 256 ⌝ }
+    ensures { λ r. ⌜ (r ≡ dartOf (now (tails .entry)) k v) × (r < 512) ⌝ }
+{
+    (2 * k + 1 - bit(wide(tails[k]) == v)) as u16
 }
 
 // The vertex of each dart of m edges.

@@ -34,7 +34,7 @@ unfolding oneMore
 more-other v w degrees n = getD-set-other degrees v w (getD degrees v 0 + 1) 0 n
 
 -- edge k, from a to b, is written behind the k that are counted
-module _ (k a b : ℕ) (tails heads degrees : List ℕ) (ht : k < length tails) (hh : k < length heads) (ha : a < 128) (hb : b < 128) (apart : b ≢ a)
+module _ (k a b : ℕ) (tails heads degrees : List ℕ) (ht : k < length tails) (hh : k < length heads) (ha : a < 128) (hb : b < 128) (apart : a ≢ b)
     (size : length degrees ≡ 128) (old : Counted k tails heads degrees) where
   kept : (v i : ℕ) → i < k → touchesOf (set tails k a) (set heads k b) i v ≡ touchesOf tails heads i v
   unfolding touchesOf
@@ -53,8 +53,8 @@ module _ (k a b : ℕ) (tails heads degrees : List ℕ) (ht : k < length tails) 
   pub counted-more : Counted (k + 1) (set tails k a) (set heads k b) (oneMore b (oneMore a degrees))
   counted-more v h =
       by-cases (ℕ-discrete v b)
-      (λ e. rw e (omega (arith, more-same b (oneMore a degrees) (omega (arith, more-length a degrees)), more-other a b degrees apart, count-more b hb, ap bit (touches-head (set tails k a) (set heads k b) k b head-is))))
+      (λ e. rw e (omega (arith, more-same b (oneMore a degrees) (omega (arith, more-length a degrees)), more-other a b degrees (λ q. apart (sym q)), count-more b hb, ap bit (touches-head (set tails k a) (set heads k b) k b head-is))))
       (λ nb.
       by-cases (ℕ-discrete v a)
-      (λ e. rw e (omega (arith, more-other b a (oneMore a degrees) (λ q. apart (sym q)), more-same a degrees (omega arith), count-more a ha, ap bit (touches-tail (set tails k a) (set heads k b) k a tail-is))))
+      (λ e. rw e (omega (arith, more-other b a (oneMore a degrees) apart, more-same a degrees (omega arith), count-more a ha, ap bit (touches-tail (set tails k a) (set heads k b) k a tail-is))))
       (λ na. omega (arith, more-other b v (oneMore a degrees) nb, more-other a v degrees na, count-more v h, ap bit (touches-not (set tails k a) (set heads k b) k v (λ q. na (sym q ∙ tail-is)) (λ q. nb (sym q ∙ head-is))))))

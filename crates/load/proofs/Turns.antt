@@ -7,7 +7,7 @@ use mathlib.Core.List.{List, [], _∷_}
 use native.Mathlib.Decide.{ℕ-discrete}
 use native.Mathlib.Omega.{arith}
 use native.Mathlib.Nat.{zero-add}
-use borrow.Author.Tests.{ltb-true, leb-true, eqb-true, eqb-false, eq-eqb, not-true}
+use borrow.Author.Tests.{leb-true, eqb-true, eq-eqb}
 use lib.Dec.{eqb, ltb, leb}
 use lib.ListN.{getD, set, length, replicate}
 use lib.Seq.{getD-set-same, getD-set-other}
@@ -126,17 +126,11 @@ module _ (text : List ℕ) (n m : ℕ) (whole : Parsed) (at k : ℕ) (tails head
           let z : m - k ≡ suc (m - (k + 1)) = omega arith in
           rw test at (sym (two-is (refused BadLayout) _ (lineAt wireKey text at) a b next e) ∙ rw z at rest)
 
-pub joins-means : (n a b : ℕ) → Joins n a b ≡ true → (a < n) × (b < n) × (b ≢ a)
-joins-means n a b j =
-    let (inside, apart) = and-eq-true-iff (ltb a n && ltb b n) (not (eqb a b)) .0 j in
-    let (ha, hb) = and-eq-true-iff (ltb a n) (ltb b n) .0 inside in
-    (ltb-true a n ha, ltb-true b n hb, λ e. eqb-false a b (not-true (eqb a b) apart) (sym e))
-
 -- one edge more
-pub apart-more : (k a b : ℕ) (tails heads : List ℕ) → k < length tails → k < length heads → b ≢ a → Apart k tails heads → Apart (k + 1) (set tails k a) (set heads k b)
+pub apart-more : (k a b : ℕ) (tails heads : List ℕ) → k < length tails → k < length heads → a ≢ b → Apart k tails heads → Apart (k + 1) (set tails k a) (set heads k b)
 apart-more k a b tails heads ht hh n old i l =
     by-cases (ℕ-discrete i k)
-    (λ e. rw (e, getD-set-same tails k a 0 ht, getD-set-same heads k b 0 hh) (λ q. n (sym q)))
+    (λ e. rw (e, getD-set-same tails k a 0 ht, getD-set-same heads k b 0 hh) n)
     (λ e. rw (getD-set-other tails k i a 0 e, getD-set-other heads k i b 0 e) (old i (omega arith)))
 
 module _ (text : List ℕ) (n m start : ℕ) (tails₀ heads₀ tails heads degrees : List ℕ) where

@@ -1,5 +1,5 @@
 -- The numbers of an `around=` line, read one after the other, each checked and linked to the one before. Assumes nothing.
-use Prim.Native.Nat.{ℕ, _+_, _-_, _*_, _≤_, _<_}
+use Prim.Native.Nat.{ℕ, _+_, _*_, _≤_, _<_}
 use mathlib.Core.Path.{_≡_, refl, sym, ap, _∙_}
 use mathlib.Core.Logic.{by-cases}
 use mathlib.Core.Bool.{Bool, true, false, not, and-eq-true-iff, and-false, false≢true}
@@ -121,10 +121,6 @@ module _ (s : List ℕ) (at end degree count first last : ℕ) (nexts : List ℕ
     end-good d = rw (closing-ended s [] at false (λ z. n (e ∙ z)), eq-eqb count degree d, e) refl
 
 -- ---- one edge of the line
-
-pub dart-is : (tails : List ℕ) (v w tail : ℕ) → tail ≡ bit (eqb (getD tails w 0) v) → 2 * w + 1 - tail ≡ dartOf tails w v
-unfolding dartOf
-dart-is tails v w tail t = by-bool (eqb (getD tails w 0) v) (λ a. rw (t, a) (omega arith)) (λ a. rw (t, a) (omega arith))
 
 module _ (m : ℕ) (tails heads : List ℕ) (v : ℕ) where
   -- whether it may stand there, test by test

@@ -2,11 +2,11 @@
 ghost use mathlib.Core.Path.{_≡_};
 ghost use Prim.Native.Nat.{_≤_, _<_};
 ghost use mathlib.Core.List.{[]};
-ghost use Rattle.clauses.specs.Darts.{dartOf};
 ghost use Rattle.text.specs.Reading.{numberAt, listed, closed};
 ghost use Rattle.load.specs.Contracts.{Apart, Counted, fitsOf, edgeOf, marksOf, firstOf, linkOf, isListed, refusalOf, restAt, ringedBy, ringEnd, RingRead, RingsRead};
 use crate::lines::Step;
 use answers::Answer;
+use clauses::dart_at;
 use counting::bit;
 use counting::wide;
 use text::Number;
@@ -43,14 +43,6 @@ fn fits(
     tail + head == 1
 }
 
-// The dart of edge w at v, which is one of its ends.
-fn dart_at(w: usize, v: usize, tails: &[u16; 256]) -> usize
-    requires { ⌜ w < 256 ⌝ }
-    ensures { λ r. ⌜ r ≡ dartOf (now (tails .entry)) w v ⌝ }
-{
-    2 * w + 1 - bit(wide(tails[w]) == v)
-}
-
 // The edge whose number stands at a place of v's line, marked as seen on it if it may stand there.
 fn edge_at(
     text: &[u8],
@@ -74,7 +66,7 @@ fn edge_at(
                 return Entry::Unfit(next);
             }
             seen[w] = (v + 1) as u16;
-            Entry::Edge(dart_at(w, v, tails), next)
+            Entry::Edge(wide(dart_at(tails, w, v)), next)
         }
     }
 }

@@ -2,13 +2,14 @@
 ghost use mathlib.Core.Path.{_≡_};
 ghost use Prim.Native.Nat.{_<_};
 ghost use lib.ListN.{getD};
-ghost use Rattle.clauses.specs.Darts.{opposite, touchesOf, dartOf};
+ghost use Rattle.clauses.specs.Darts.{opposite, touchesOf};
 ghost use Rattle.sheet.specs.Check.{rowLevels};
 ghost use Rattle.edit.specs.Reaching.{leadsTo};
 ghost use Rattle.edit.specs.Changes.{runEdge};
 ghost use Rattle.edit.specs.Calls.{runAnswer, runCall};
 ghost use Rattle.run.specs.Contracts.{cornerOf, Pair, Named, Room};
 use answers::Answer;
+use clauses::dart_at;
 use counting::wide;
 use edit::Edited;
 use sheet::Sheet;
@@ -22,17 +23,6 @@ fn touches(tails: &[u16; 256], heads: &[u16; 256], k: usize, v: usize) -> bool
         return true;
     }
     wide(heads[k]) == v
-}
-
-// The end of edge k at vertex v, which it touches.
-fn dart_at(tails: &[u16; 256], k: usize, v: usize) -> u16
-    requires { ⌜ k < 256 ⌝ }
-    ensures { λ r. ⌜ (r ≡ dartOf (now (tails .entry)) k v) × (r < 512) ⌝ }
-{
-    if wide(tails[k]) == v {
-        return (2 * k) as u16;
-    }
-    (2 * k + 1) as u16
 }
 
 // The face that holds the other end of a dart's edge.

@@ -1,10 +1,11 @@
 -- Each clause of soundness over the arrays; what the answer is by them. Assumes nothing.
 use Prim.Native.Nat.{ℕ, _+_, _*_, _≤_, _<_}
 use mathlib.Core.Path.{_≡_, refl, sym, ap, _∙_}
+use mathlib.Core.Logic.{_≢_}
 use mathlib.Core.Bool.{Bool, true, false, not, _&&_, _||_, cond, and-eq-true-iff, or-and-distrib-left, true≢false}
 use mathlib.Core.List.{List, [], _∷_}
 use native.Mathlib.Omega.{arith}
-use borrow.Author.Tests.{ltb-true, leb-true, eq-eqb, ne-eqb}
+use borrow.Author.Tests.{leb-true, eq-eqb, ne-eqb}
 use lib.Dec.{eqb, ltb, leb}
 use lib.ListN.{getD}
 use Rattle.counting.specs.Below.{allBelow}
@@ -25,6 +26,7 @@ use Rattle.answers.specs.Refusals.{first, isAccepted, _if_}
 use Rattle.sheet.specs.Darts.{tail, head, darts}
 use Rattle.sheet.specs.Check.{withinLimits, joined, inRings, unusedZero, rooted, rowLevels, acyclic, incoming, outgoing, poles, faceTable, planar, sound, judge}
 use Rattle.sheet.specs.Contracts.{refused, accepted, bounded, facedOf, judgedOf, findingsOf}
+use Rattle.clauses.proofs.Touching.{joins-means}
 use Rattle.clauses.specs.Contracts.{limitsOf, joinsAt, zeroAt, unusedOf, Ends, dartTable, walkOf, endOf, poleAt, polesOf, rootedOf}
 use Rattle.rings.specs.Contracts.{ringsOf, ringLevels}
 use Rattle.sheet.specs.Darts.{sheetOf}
@@ -88,12 +90,10 @@ face-met otherwise n m nexts rows walk we f fe q =
 module _ (n m : ℕ) (tails heads : List ℕ) where
   pub joined-ends : (b : ℕ) → n ≤ b → m ≤ 256 → allBelow (joinsAt n tails heads) m ≡ true → Ends b m tails × Ends b m heads
   unfolding joinsAt
-  joined-ends b l few a = (record { few = few; inside = λ k h. omega (arith, ltb-true (getD tails k 0) n (ends k h .0)) }, record { few = few; inside = λ k h. omega (arith, ltb-true (getD heads k 0) n (ends k h .1)) })
+  joined-ends b l few a = (record { few = few; inside = λ k h. omega (arith, ends k h .0) }, record { few = few; inside = λ k h. omega (arith, ends k h .1) })
     where
-      ends : (k : ℕ) → k < m → (ltb (getD tails k 0) n ≡ true) × (ltb (getD heads k 0) n ≡ true)
-      ends k h =
-          and-eq-true-iff (ltb (getD tails k 0) n) (ltb (getD heads k 0) n) .0
-          (and-eq-true-iff (ltb (getD tails k 0) n && ltb (getD heads k 0) n) (not (eqb (getD tails k 0) (getD heads k 0))) .0 (all-at (joinsAt n tails heads) m a k h) .0)
+      ends : (k : ℕ) → k < m → (getD tails k 0 < n) × (getD heads k 0 < n) × (getD tails k 0 ≢ getD heads k 0)
+      ends k h = joins-means n (getD tails k 0) (getD heads k 0) (all-at (joinsAt n tails heads) m a k h)
 
   acyclic-within : levelsOf n m tails heads .acyclic ≡ true → Within n m tails heads
   unfolding levelsOf answer

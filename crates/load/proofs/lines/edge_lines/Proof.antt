@@ -10,10 +10,11 @@ use Rattle.text.specs.Reading.{lineAt}
 use Rattle.text.specs.Shapes.{pairOf}
 use Rattle.text.specs.Keys.{wireKey}
 use Rattle.answers.specs.declared.Answer.the-variants.{BadLayout, BadEdge}
+use Rattle.clauses.proofs.Touching.{joins-means}
 use Rattle.load.specs.Load.{edgeLines}
 use Rattle.sheet.specs.Darts.{sheetOf}
 use Rattle.load.specs.Contracts.{noNexts, Apart, Counted}
-use Rattle.load.proofs.Turns.{edges-refused, edges-next, edges-over, edge-line-bad, Joins, edge-bad, edge-good, joins-means, apart-more}
+use Rattle.load.proofs.Turns.{edges-refused, edges-next, edges-over, edge-line-bad, Joins, edge-bad, edge-good, apart-more}
 use Rattle.load.proofs.Ends.{counted-most, counted-more, more-length, more-other}
 use borrow.Author.Needs.{needs}
 use Rattle.load.proofs.lines.edge_lines.Statement.{statement}
@@ -80,7 +81,7 @@ element-write-heads c = search needs
 joined : (c : tie.Else1 Inv-loop μ-loop) → let read = c .before .before .before in Joins (read .before .before .before .before .before .before .before .args .n) (read .read .given .0 .0) (read .read .given .0 .1 .0) ≡ true
 joined c = sym (c .before .joins .ensures) ∙ not-false _ (c .if1 .left)
 
-ends : (c : tie.Else1 Inv-loop μ-loop) → let read = c .before .before .before in (read .read .given .0 .0 < 128) × (read .read .given .0 .1 .0 < 128) × (read .read .given .0 .1 .0 ≢ read .read .given .0 .0)
+ends : (c : tie.Else1 Inv-loop μ-loop) → let read = c .before .before .before in (read .read .given .0 .0 < 128) × (read .read .given .0 .1 .0 < 128) × (read .read .given .0 .0 ≢ read .read .given .0 .1 .0)
 ends c =
     let read = c .before .before .before in
     let a = read .before .before .before .before .before .before .before in
@@ -99,7 +100,7 @@ count-end-requires-2 c κs =
     let loop = test .before .before .before .before .before .before .before .before .loop in
     let (tail, head, apart) = ends test in
     let once = c .before .count-end .ensures in
-    (head, rw once (more-length _ _ ∙ loop .inv .5), rw once (omega (arith, more-other _ _ (loop .degrees) apart, counted-most (loop .k) (loop .tails) (loop .heads) (loop .degrees) (loop .inv .6) _ head)))
+    (head, rw once (more-length _ _ ∙ loop .inv .5), rw once (omega (arith, more-other _ _ (loop .degrees) (λ e. apart (sym e)), counted-most (loop .k) (loop .tails) (loop .heads) (loop .degrees) (loop .inv .6) _ head)))
 
 add-k : tie.Need-add-k Inv-loop μ-loop
 add-k c = search needs

@@ -58,6 +58,9 @@ element-write-seen c = omega (arith, below c)
 dart-at-requires : tie.Need-dart-at-requires
 dart-at-requires c κs = below c
 
+wide-requires-2 : tie.Need-wide-requires-2
+wide-requires-2 c κs = search needs
+
 returns-2 : tie.Need-returns-2
 returns-2 c =
     let a = c .before .before .before .before .args in
@@ -65,10 +68,11 @@ returns-2 c =
 
 returns-3 : tie.Need-returns-3
 returns-3 c =
-    let test = c .before in
+    let dart = c .before in
+    let test = dart .before in
     let w = test .before .before .before in
     let a = w .before .before .before .before .before .before .args in
-    named-edge (a .m) (a .tails .now) (a .heads .now) (a .v) (a .seen .now) _ _ _ (value w) (sym (test .before .fits2 .ensures) ∙ not-false _ (test .if1 .left)) _ (c .dart-at .ensures)
+    named-edge (a .m) (a .tails .now) (a .heads .now) (a .v) (a .seen .now) _ _ _ (value w) (sym (test .before .fits2 .ensures) ∙ not-false _ (test .if1 .left)) _ (c .wide2 .ensures .0 ∙ dart .dart-at .ensures .0)
 
 pub edge-at-spec : {M : Type 1} → statement M
 edge-at-spec =
@@ -85,5 +89,6 @@ edge-at-spec =
     mul-seen
     element-write-seen
     dart-at-requires
+    wide-requires-2
     returns-2
     returns-3)

@@ -1,11 +1,12 @@
+-- `clauses::dart_at` meets its contract. Assumes nothing.
 use Prim.Native.Nat.{ℕ}
 use mathlib.Core.Path.{ap, _∙_}
 use lib.Dec.{eqb}
 use Rattle.counting.specs.Counts.{bit}
-use Rattle.load.proofs.Walking.{dart-is}
+use Rattle.clauses.proofs.Touching.{dart-is}
 use borrow.Author.Needs.{needs}
-use Rattle.load.proofs.rings.dart_at.Statement.{statement}
-use Rattle.load.proofs.rings.dart_at.Tie as tie
+use Rattle.clauses.proofs.dart_at.Statement.{statement}
+use Rattle.clauses.proofs.dart_at.Tie as tie
 
 mul-result : tie.Need-mul-result
 mul-result c = search needs
@@ -28,11 +29,15 @@ bit-requires c κs = search needs
 sub-result : tie.Need-sub-result
 sub-result c = search needs
 
+cast-result : tie.Need-cast-result
+cast-result c = search needs
+
 returns : tie.Need-returns
 returns c =
     let wide = c .before in
-    let a = wide .before .before .args in
-    dart-is (a .tails .now) (a .v) (a .w) _ (c .bit .ensures .0 ∙ ap (λ (x : ℕ). bit (eqb x (a .v))) (wide .wide .ensures .0))
+    let start = wide .before .before in
+    let a = start .args in
+    dart-is (a .tails .now) (a .k) (a .v) _ (start .pre) (c .bit .ensures .0 ∙ ap (λ (x : ℕ). bit (eqb x (a .v))) (wide .wide .ensures .0))
 
 pub dart-at-spec : {M : Type 1} → statement M
 dart-at-spec =
@@ -45,4 +50,5 @@ dart-at-spec =
     wide-requires
     bit-requires
     sub-result
+    cast-result
     returns)
