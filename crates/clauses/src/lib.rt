@@ -1,4 +1,4 @@
-// The clauses of soundness over the arrays of a sheet, each in time linear in them.
+// The clauses of soundness over the arrays of a sheet, each in time linear in them, and the darts that they speak of.
 ghost use mathlib.Core.Path.{_≡_};
 ghost use mathlib.Core.Bool.{true, false, not, _&&_};
 ghost use Prim.Native.Nat.{_*_, _≤_, _<_};
