@@ -7,12 +7,10 @@ use native.Mathlib.Nat.{mul-le-mul-right}
 use native.Mathlib.Decide.{ℕ-discrete}
 use native.Mathlib.Omega.{arith}
 use Rattle.planarmap.specs.Order.{Edge}
-use Rattle.planarmap.specs.Columns.{ColumnLaws}
 use Rattle.planarmap.specs.Contact.{NoContact, Reaches, Joins}
 use Rattle.planarmap.specs.Contact as plane
-use Rattle.planarmap.proofs.Columns.{column-laws}
 use Rattle.planarmap.proofs.Contact.{apart}
-use Rattle.planarmap.proofs.Spans.{short-extent, short-reaches}
+use Rattle.planarmap.proofs.Spans.{long-extent, long-reaches}
 use Rattle.planarmap.proofs.Points.{no-contact}
 use Rattle.sheet.specs.declared.Sheet.{Sheet}
 use Rattle.clauses.specs.Darts.{tailDart, opposite}
@@ -22,25 +20,21 @@ use Rattle.sheet.specs.Check.{row, column}
 use Rattle.soundness.specs.Maps.{mapOf}
 use Rattle.soundness.proofs.Darts.{dart, dart-kind, dart-below, dart-opposite, dart-vertex}
 use Rattle.soundness.proofs.Plane.{plane-of}
-use Rattle.soundness.proofs.Columns.{columns-of}
 use Rattle.drawing.specs.declared.Drawing.{Drawing}
-use Rattle.drawing.specs.Draw.{edgeColumn, vertexSegment, edgeSegment, drawingOf}
+use Rattle.drawing.specs.Draw.{edgeColumn, firstColumn, lastColumn, vertexSegment, edgeSegment, drawingOf}
 use Rattle.drawing.specs.Points.{Point, edgeOf, OnVertex, OnEdge}
 use Rattle.drawing.specs.Clear.{Meet, Clear}
-use Rattle.drawing.proofs.Segments.{vertex-entry, edge-entry, edge-stands, dart-column, firstOf, lastOf, short-of}
+use Rattle.drawing.proofs.Segments.{vertex-entry, edge-entry, edge-stands, dart-column, laws, long-of}
 
 module _ {s : Sheet} (S : Sound s) where
   abbrev D : Drawing
   D = drawingOf s
 
-  laws : ColumnLaws (mapOf s) (column s)
-  laws = column-laws (plane-of S) (columns-of S)
+  contact : NoContact (mapOf s) (column s) (firstColumn s) (lastColumn s)
+  contact = no-contact (apart (plane-of S) (laws S) (long-extent (plane-of S) (laws S) (long-of S)))
 
-  contact : NoContact (mapOf s) (column s) (firstOf s) (lastOf s)
-  contact = no-contact (apart (plane-of S) laws (short-extent (plane-of S) laws (short-of S)))
-
-  reaches : Reaches (mapOf s) (column s) (firstOf s) (lastOf s)
-  reaches = short-reaches (plane-of S) laws (short-of S)
+  reaches : Reaches (mapOf s) (column s) (firstColumn s) (lastColumn s)
+  reaches = long-reaches (plane-of S) (laws S) (long-of S)
 
   -- ---- the drawing's points are the map's
 
@@ -56,7 +50,7 @@ module _ {s : Sheet} (S : Sound s) where
   unfolding edgeColumn
   on-edge {k} h q = record { here = rw (edge-stands s k h) at (q .upright); from = rw (edge-low k h) at (q .from-low); to = rw (edge-high k h) at (q .to-high) }
 
-  on-vertex : {v : ℕ} {p : Point} → v < s .vertices → OnVertex D v p → plane.OnVertex (mapOf s) (firstOf s) (lastOf s) v (p .x) (p .y) (p .d)
+  on-vertex : {v : ℕ} {p : Point} → v < s .vertices → OnVertex D v p → plane.OnVertex (mapOf s) (firstColumn s) (lastColumn s) v (p .x) (p .y) (p .d)
   unfolding vertexSegment
   on-vertex {v} h q = record { here = rw (vertex-entry s v h) at (q .level); from = rw (vertex-entry s v h) at (q .from-first); to = rw (vertex-entry s v h) at (q .to-last) }
 

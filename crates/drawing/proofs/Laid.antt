@@ -1,59 +1,30 @@
 -- The drawing of a sound sheet is as laid down.
-use mathlib.Core.Path.{_≡_, refl, sym, _∙_, ap, subst}
+use mathlib.Core.Path.{_≡_, refl, sym, _∙_, ap}
 use mathlib.Core.Bool.{true}
 use mathlib.Core.List.{List, [], _∷_, _++_}
 use Prim.Native.Nat.{ℕ, zero, suc, _+_, _-_, _≤_, _<_}
 use native.Mathlib.Omega.{arith}
 use lib.ListN.{getD, length, length-append, replicate, length-replicate}
 use Rattle.counting.specs.Below.{tabulate}
-use Rattle.counting.specs.Paths.{Path}
-use Rattle.counting.specs.Paths.Path.{here, more}
 use Rattle.counting.proofs.Below.{length-tabulate}
-use Rattle.counting.proofs.Orbits.{kept-joined}
 use Rattle.sheet.specs.declared.Sheet.{Sheet}
-use Rattle.clauses.specs.Darts.{tailDart, headDart}
-use Rattle.sheet.specs.Darts.{tail, head, darts}
+use Rattle.clauses.specs.Darts.{tailDart}
+use Rattle.sheet.specs.Darts.{tail, head}
 use Rattle.sheet.specs.Sound.{Sound, Faces}
-use Rattle.sheet.specs.Levels.{FaceLeads, Column, leftFace}
-use Rattle.sheet.specs.Levels.FaceLeads.{across, root}
+use Rattle.sheet.specs.Levels.{Column, leftFace}
 use Rattle.sheet.specs.Check.{face}
 use Rattle.soundness.proofs.Darts.{dart-below}
-use Rattle.soundness.proofs.Faces.{walk-perm}
-use Rattle.soundness.proofs.Law.{rotation-of}
+use Rattle.soundness.proofs.Tests.{lt-says}
 use Rattle.soundness.proofs.Rows.{row-law}
 use Rattle.soundness.proofs.Columns.{column-law}
 use Rattle.drawing.specs.declared.Drawing.{Drawing}
-use Rattle.drawing.specs.Draw.{edgeColumn, columnsAt, vertexSegment, edgeSegment, noVertexSegment, noEdgeSegment, drawingOf}
+use Rattle.drawing.specs.Draw.{edgeColumn, columnsAt, firstColumn, lastColumn, vertexSegment, edgeSegment, noVertexSegment, noEdgeSegment, drawingOf}
 use Rattle.drawing.specs.Points.{vertexOf, edgeOf}
 use Rattle.drawing.specs.Laid.{EdgeAt, LeastColumn, GreatestColumn, Laid}
 use Rattle.drawing.proofs.Extremes.{Extreme, least-extreme, greatest-extreme}
 use Rattle.drawing.proofs.Segments.{vertex-entry, vertex-row, edge-entry, edge-stands, touches-says, edge-found, edge-bound}
-
--- ---- columns do not depend on how the faces are numbered
-
-module _ {s : Sheet} (S : Sound s) {label label′ : ℕ → ℕ} {f f′ : ℕ} (o : Faces s label f) (o′ : Faces s label′ f′) where
-  -- darts of one face by the first numbering are so by the second
-  renumbered : (d e : ℕ) → d < darts s → e < darts s → label d ≡ label e → label′ d ≡ label′ e
-  renumbered = kept-joined (walk-perm s (S .limits .edges-most) (rotation-of S)) o label′ (o′ .step)
-
-  path-renumbered : {a c k : ℕ} → Path (FaceLeads s label) a c k → (d e : ℕ) → d < darts s → e < darts s → label d ≡ a → label e ≡ c
-      → Path (FaceLeads s label′) (label′ d) (label′ e) k
-  path-renumbered here d e h i p q = subst (λ c. Path (FaceLeads s label′) (label′ d) c 0) (renumbered d e h i (p ∙ sym q)) here
-  path-renumbered (more w (across k l n b c)) d e h i p q =
-      more (path-renumbered w d (tailDart k) h (dart-below true l) p b)
-      (across k l n refl (renumbered (headDart k) e (omega arith) i (c ∙ sym q)))
-  path-renumbered (more w (root b c)) d e h i p q =
-      more (path-renumbered w d (headDart 0) h (omega (arith, S .limits .edges-least)) p b)
-      (root refl (renumbered (tailDart 0) e (omega (arith, S .limits .edges-least)) i (c ∙ sym q)))
-
-column-renumbered : {s : Sheet} (S : Sound s) {label label′ : ℕ → ℕ} {f f′ : ℕ} → Faces s label f → Faces s label′ f′
-    → (d : ℕ) → d < darts s → {c : ℕ} → Column s label (label d) c → Column s label′ (label′ d) c
-column-renumbered {s} S o o′ d h l =
-    let z : headDart 0 < darts s = omega (arith, S .limits .edges-least) in
-    record {
-      path = path-renumbered S o o′ (l .path) (headDart 0) d z h refl refl;
-      most = λ j p. l .most j (path-renumbered S o′ o p (headDart 0) d z h refl refl);
-    }
+use Rattle.drawing.proofs.Renumbering.{column-renumbered}
+use Rattle.drawing.proofs.Sides.{to-right}
 
 -- ---- a table that is filled up with one value
 
@@ -97,23 +68,23 @@ module _ {s : Sheet} (S : Sound s) where
 
   -- the best column of the wires of a bar
   module _ {R : ℕ → ℕ → Type 0} {best : List ℕ → ℕ} (E : Extreme R best) (v : ℕ) (h : v < s .vertices) where
-    found : (k : ℕ) × EdgeAt s v k × (edgeOf D k .column ≡ best (columnsAt s v))
-    found = let (k, i, t, p) = edge-found S E v h in (k, (i, touches-says s k v .0 t), edge-stands s k i ∙ sym p)
+    found : (k : ℕ) × EdgeAt s v k × (edgeOf D k .column ≡ best (columnsAt (edgeColumn s) s v))
+    found = let (k, i, t, p) = edge-found S E (edgeColumn s) v h in (k, (i, touches-says s k v .0 t), edge-stands s k i ∙ sym p)
 
-    bound : (k : ℕ) → EdgeAt s v k → R (best (columnsAt s v)) (edgeOf D k .column)
-    bound k (i, a) = rw (edge-stands s k i) (edge-bound S E v h k i (touches-says s k v .1 a))
+    bound : (k : ℕ) → EdgeAt s v k → R (best (columnsAt (edgeColumn s) s v)) (edgeOf D k .column)
+    bound k (i, a) = rw (edge-stands s k i) (edge-bound S E (edgeColumn s) v h k i (touches-says s k v .1 a))
 
   least-at : (v : ℕ) → v < s .vertices → LeastColumn s D v (vertexOf D v .first)
-  unfolding vertexSegment
+  unfolding vertexSegment firstColumn
   least-at v h =
       let (k, a, e) = found least-extreme v h in
       rw (vertex-entry s v h) (record { edge = k; edge-at = a; stands = e; least = bound least-extreme v h })
 
-  greatest-at : (v : ℕ) → v < s .vertices → GreatestColumn s D v (vertexOf D v .last)
-  unfolding vertexSegment
-  greatest-at v h =
+  greatest-at : (v : ℕ) → v < s .vertices → v < 2 → GreatestColumn s D v (vertexOf D v .last)
+  unfolding vertexSegment lastColumn
+  greatest-at v h l =
       let (k, a, e) = found greatest-extreme v h in
-      rw (vertex-entry s v h) (record { edge = k; edge-at = a; stands = e; greatest = bound greatest-extreme v h })
+      rw (vertex-entry s v h, lt-says v 2 .1 l) (record { edge = k; edge-at = a; stands = e; greatest = bound greatest-extreme v h })
 
 pub drawing-laid : {s : Sheet} → Sound s → Laid s (drawingOf s)
 unfolding drawingOf
@@ -123,7 +94,9 @@ drawing-laid {s} S = record {
   low = edge-low S;
   high = edge-high S;
   first = least-at S;
-  last = greatest-at S;
+  last = to-right S;
+  last-0 = greatest-at S 0 (omega (arith, S .limits .vertices-least)) (omega arith);
+  last-1 = greatest-at S 1 (S .limits .vertices-least) (omega arith);
   rows = ap (λ r. r + 1) (sym (vertex-row s 1 (S .limits .vertices-least)));
   columns = ap (λ c. c + 1) (sym (edge-stands s 0 (omega (arith, S .limits .edges-least))));
   vertex-entries = table-size noVertexSegment (vertexSegment s) (s .vertices) 128 (S .limits .vertices-most);

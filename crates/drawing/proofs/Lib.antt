@@ -1,5 +1,7 @@
 pub mod Extremes
 pub mod Segments
+pub mod Renumbering
+pub mod Sides
 pub mod Laid
 pub mod Unique
 pub mod Contact

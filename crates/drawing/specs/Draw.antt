@@ -1,7 +1,8 @@
 -- The drawing of a sheet, and draw.
 use Prim.Native.Nat.{ℕ, _+_, _-_, min, max}
-use mathlib.Core.Bool.{not}
+use mathlib.Core.Bool.{not, cond}
 use mathlib.Core.List.{List, [], _∷_, _++_, map}
+use lib.Dec.{ltb}
 use lib.ListN.{replicate}
 use Rattle.counting.specs.Below.{listBelow, tabulate}
 use Rattle.counting.specs.Choice.{pick}
@@ -9,7 +10,7 @@ use Rattle.sheet.specs.declared.Sheet.{Sheet}
 use Rattle.answers.specs.declared.Answer.{Answer}
 use Rattle.answers.specs.declared.Answer.the-variants.{NotSound}
 use Rattle.answers.specs.Refusals.{first, _if_, isAccepted}
-use Rattle.clauses.specs.Darts.{tailDart}
+use Rattle.clauses.specs.Darts.{tailDart, headDart}
 use Rattle.sheet.specs.Darts.{tail, head, touches}
 use Rattle.sheet.specs.Check.{sound, row, face, column}
 use Rattle.drawing.specs.declared.VertexSegment.{VertexSegment}
@@ -21,9 +22,13 @@ use Rattle.drawing.specs.declared.Drawn.{Drawn}
 unfoldable pub edgeColumn : Sheet → ℕ → ℕ
 edgeColumn s k = column s (face s (tailDart k))
 
--- the columns of a bar's wires
-unfoldable pub columnsAt : Sheet → ℕ → List ℕ
-columnsAt s v = map (edgeColumn s) (listBelow (λ k. touches s k v) (s .edges))
+-- the column of the face to the right of a wire
+unfoldable pub rightColumn : Sheet → ℕ → ℕ
+rightColumn s k = column s (face s (headDart k))
+
+-- the columns of a bar's wires, or of the faces to their right
+unfoldable pub columnsAt : (ℕ → ℕ) → Sheet → ℕ → List ℕ
+columnsAt columnOf s v = map columnOf (listBelow (λ k. touches s k v) (s .edges))
 
 -- the least and the greatest of a list
 unfoldable pub least : List ℕ → ℕ
@@ -35,9 +40,17 @@ unfoldable pub greatest : List ℕ → ℕ
 greatest [] = 0
 greatest (x ∷ xs) = max x (greatest xs)
 
--- A bar lies in its row, from the least to the greatest column of its wires.
+-- A bar lies in its row, from the least column of its wires
+unfoldable pub firstColumn : Sheet → ℕ → ℕ
+firstColumn s v = least (columnsAt (edgeColumn s) s v)
+
+-- to the column of the face to the right of its rightmost wires, less 1: of the faces to the right of its wires that one is in the greatest column.
+-- Bars 0 and 1 go to the greatest column of their wires.
+unfoldable pub lastColumn : Sheet → ℕ → ℕ
+lastColumn s v = cond (ltb v 2) (greatest (columnsAt (edgeColumn s) s v)) (greatest (columnsAt (rightColumn s) s v) - 1)
+
 unfoldable pub vertexSegment : Sheet → ℕ → VertexSegment
-vertexSegment s v = record { row = row s v; first = least (columnsAt s v); last = greatest (columnsAt s v) }
+vertexSegment s v = record { row = row s v; first = firstColumn s v; last = lastColumn s v }
 
 -- A wire stands from its tail's row to its head's row.
 unfoldable pub edgeSegment : Sheet → ℕ → EdgeSegment

@@ -1,12 +1,12 @@
 -- The drawing as 'Rows, columns and the drawing' lays it down, with no definition that computes; and the law to the one that does.
 use Prim.Native.Nat.{ℕ, _+_, _≤_, _<_}
 use mathlib.Core.Path.{_≡_}
-use mathlib.Core.Logic.{_⊎_, _↔_}
+use mathlib.Core.Logic.{_≢_, _⊎_, _↔_}
 use lib.ListN.{length}
 use Rattle.sheet.specs.declared.Sheet.{Sheet}
 use Rattle.sheet.specs.Darts.{tail, head}
 use Rattle.sheet.specs.Sound.{Sound, Faces}
-use Rattle.sheet.specs.Levels.{Row, Column, leftFace}
+use Rattle.sheet.specs.Levels.{Row, Column, leftFace, rightFace}
 use Rattle.drawing.specs.declared.Drawing.{Drawing}
 use Rattle.drawing.specs.Draw.{noVertexSegment, noEdgeSegment, drawingOf}
 use Rattle.drawing.specs.Points.{vertexOf, edgeOf}
@@ -29,6 +29,22 @@ pub record GreatestColumn (s : Sheet) (D : Drawing) (v c : ℕ) : Type 0 where
   pub stands : edgeOf D edge .column ≡ c
   pub greatest : (k : ℕ) → EdgeAt s v k → edgeOf D k .column ≤ c
 
+-- Upward are the wires whose tail the bar is, downward those whose head it is: of those of bar v, upward where `end` is `tail` and downward where it is
+-- `head`, wire k is the rightmost.
+pub record Rightmost (s : Sheet) (D : Drawing) (end : Sheet → ℕ → ℕ) (v k : ℕ) : Type 0 where
+  pub inside : k < s .edges
+  pub at-bar : end s k ≡ v
+  pub greatest : (j : ℕ) → j < s .edges → end s j ≡ v → edgeOf D j .column ≤ edgeOf D k .column
+
+-- c is the face to the right of the rightmost wires of bar v, of the upward one and of the downward one
+pub record FaceToRight (s : Sheet) (D : Drawing) (face : ℕ → ℕ) (v c : ℕ) : Type 0 where
+  pub upward : ℕ
+  pub upward-rightmost : Rightmost s D tail v upward
+  pub right-of-upward : rightFace face upward ≡ c
+  pub downward : ℕ
+  pub downward-rightmost : Rightmost s D head v downward
+  pub right-of-downward : rightFace face downward ≡ c
+
 pub record Laid (s : Sheet) (D : Drawing) : Type 0 where
   -- Row of a bar: the most wires on a directed path from bar 0 to it.
   pub row : (v : ℕ) → v < s .vertices → Row s v (vertexOf D v .row)
@@ -37,9 +53,14 @@ pub record Laid (s : Sheet) (D : Drawing) : Type 0 where
   -- from its tail's row to its head's row.
   pub low : (k : ℕ) → k < s .edges → edgeOf D k .low ≡ vertexOf D (tail s k) .row
   pub high : (k : ℕ) → k < s .edges → edgeOf D k .high ≡ vertexOf D (head s k) .row
-  -- A bar lies in its row, from the least to the greatest column of its wires.
+  -- A bar lies in its row, from the least column of its wires
   pub first : (v : ℕ) → v < s .vertices → LeastColumn s D v (vertexOf D v .first)
-  pub last : (v : ℕ) → v < s .vertices → GreatestColumn s D v (vertexOf D v .last)
+  -- to the column of the face to the right of its rightmost wires, less 1, for every bar but 0 and 1;
+  pub last : (face : ℕ → ℕ) (f : ℕ) → Faces s face f → (v : ℕ) → v < s .vertices → v ≢ 0 → v ≢ 1
+      → (c : ℕ) × FaceToRight s D face v c × Column s face c (vertexOf D v .last + 1)
+  -- bars 0 and 1 to the greatest column of their wires.
+  pub last-0 : GreatestColumn s D 0 (vertexOf D 0 .last)
+  pub last-1 : GreatestColumn s D 1 (vertexOf D 1 .last)
   -- Rows are the row of bar 1 plus 1; columns are the column of the left face of wire 0 plus 1.
   pub rows : D .rows ≡ vertexOf D 1 .row + 1
   pub columns : D .columns ≡ edgeOf D 0 .column + 1
@@ -48,6 +69,11 @@ pub record Laid (s : Sheet) (D : Drawing) : Type 0 where
   pub edge-entries : length (D .edges) ≡ 256
   pub unused-vertices : (v : ℕ) → s .vertices ≤ v → vertexOf D v ≡ noVertexSegment
   pub unused-edges : (k : ℕ) → s .edges ≤ k → edgeOf D k ≡ noEdgeSegment
+
+-- The right face of a bar's rightmost upward wire and that of its rightmost downward wire are one face.
+abbrev pub One-Face-Law : Type 0
+One-Face-Law = (s : Sheet) → Sound s → (face : ℕ → ℕ) (f : ℕ) → Faces s face f → (v k l : ℕ)
+    → Rightmost s (drawingOf s) tail v k → Rightmost s (drawingOf s) head v l → rightFace face k ≡ rightFace face l
 
 -- Of a sound sheet it leaves no choice.
 abbrev pub Laid-Law : Type 0

@@ -9,4 +9,5 @@ pub mod Contact
 pub mod Spans
 pub mod Points
 pub mod Rotation
+pub mod Sides
 pub mod Example

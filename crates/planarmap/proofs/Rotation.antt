@@ -23,10 +23,10 @@ module _ {M : Map} (P : Plane M) {column : ℕ → ℕ} (L : ColumnLaws M column
   B = P .bipolar
 
   -- a dart at the vertex v, tail or head
-  record Dart (b : Bool) (v d : ℕ) : Type 0 where
-    below : d < M .darts
-    at-v : M .vertex d ≡ v
-    kind : M .out d ≡ b
+  pub record Dart (b : Bool) (v d : ℕ) : Type 0 where
+    pub below : d < M .darts
+    pub at-v : M .vertex d ≡ v
+    pub kind : M .out d ≡ b
 
   -- the columns of the faces on its two sides
   abbrev at : ℕ → ℕ
@@ -42,7 +42,7 @@ module _ {M : Map} (P : Plane M) {column : ℕ → ℕ} (L : ColumnLaws M column
   rises {b} D n = rises-at P L b (D .below) (D .kind) n
 
   -- of two darts of one kind at a vertex neither has its edge's column within the other's edge
-  one-dart : {b : Bool} {v d e : ℕ} → Dart b v d → Dart b v e → leftAt M column b d ≤ leftAt M column b e → leftAt M column b e < rightAt M column b d → d ≡ e
+  pub one-dart : {b : Bool} {v d e : ℕ} → Dart b v d → Dart b v e → leftAt M column b d ≤ leftAt M column b e → leftAt M column b e < rightAt M column b d → d ≡ e
   one-dart {b} {v} {d} {e} D E l r =
       let other : e ≢ rootDart M b = λ z. omega (arith, ap (leftAt M column b) z, root-left P L b, right-last P L b (D .below)) in
       one-front B (closed P L (leftAt M column b e)) (one-corner P)

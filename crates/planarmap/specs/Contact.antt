@@ -2,7 +2,7 @@
 -- from its first to its last column.
 use mathlib.Core.Path.{_≡_}
 use mathlib.Core.Logic.{_≢_, _⊎_}
-use mathlib.Core.Bool.{cond}
+use mathlib.Core.Bool.{Bool, true, false, cond}
 use Prim.Native.Nat.{ℕ, suc, _*_, _≤_, _<_}
 use Rattle.planarmap.specs.Map.{Map}
 use Rattle.planarmap.specs.Corners.{Left, Right, cornerFace}
@@ -50,6 +50,25 @@ pub record Least (M : Map) (column : ℕ → ℕ) (v k : ℕ) : Type 0 where
 pub record Greatest (M : Map) (column : ℕ → ℕ) (v k : ℕ) : Type 0 where
   pub found : (d : ℕ) × (d < M .darts) × (M .vertex d ≡ v) × (k ≡ edgeColumn M column d)
   pub greatest : (d : ℕ) → d < M .darts → M .vertex d ≡ v → edgeColumn M column d ≤ k
+
+-- the face to the right of the edge of a dart
+unfoldable pub rightFace : Map → ℕ → ℕ
+rightFace M d = cond (M .out d) (M .face (M .opposite d)) (M .face d)
+
+-- of the edges that leave v, where b is true, or enter it, that of the dart d is the rightmost: it stands in the greatest column
+pub record Rightmost (M : Map) (column : ℕ → ℕ) (v : ℕ) (b : Bool) (d : ℕ) : Type 0 where
+  pub below : d < M .darts
+  pub at-v : M .vertex d ≡ v
+  pub kind : M .out d ≡ b
+  pub greatest : (e : ℕ) → e < M .darts → M .vertex e ≡ v → M .out e ≡ b → edgeColumn M column e ≤ edgeColumn M column d
+
+-- the right corner k of a vertex lies between its rightmost outgoing and its rightmost incoming edge: the face to the right of both is that of the
+-- corner, and no face to the right of an edge of the vertex is in a greater column
+pub record RightSide (M : Map) (column : ℕ → ℕ) (k : ℕ) : Type 0 where
+  pub outgoing : Rightmost M column (M .vertex k) true k
+  pub incoming : Rightmost M column (M .vertex k) false (M .next k)
+  pub one-face : (b : Bool) (d : ℕ) → Rightmost M column (M .vertex k) b d → rightFace M d ≡ cornerFace M k
+  pub greatest : (d : ℕ) → d < M .darts → M .vertex d ≡ M .vertex k → column (rightFace M d) ≤ column (cornerFace M k)
 
 -- each vertex from the least to the greatest column of its edges
 pub record Short (M : Map) (column first last : ℕ → ℕ) : Type 0 where
