@@ -1,9 +1,11 @@
--- The columns of the edges of a sound sheet, from its faces. Assumes nothing.
-use Prim.Native.Nat.{ℕ, _+_, _*_, _≤_, _<_}
+-- The columns of the faces beside each edge of a sound sheet. Assumes nothing.
+use Prim.Native.Nat.{ℕ, _+_, _-_, _*_, _≤_, _<_}
 use mathlib.Core.Path.{_≡_, refl, ap, _∙_}
 use mathlib.Core.Logic.{_≢_}
+use mathlib.Core.Bool.{cond}
 use mathlib.Core.List.{List}
 use native.Mathlib.Omega.{arith}
+use lib.Dec.{eqb}
 use lib.ListN.{getD, set}
 use borrow.Author.Tests.{ne-eqb}
 use Rattle.digraph.specs.Relaxed.{levelsOf}
@@ -11,18 +13,13 @@ use Rattle.sheet.specs.declared.Sheet.{Sheet}
 use Rattle.clauses.specs.Darts.{tailDart}
 use Rattle.clauses.specs.Contracts.{Ends}
 use Rattle.sheet.specs.Sound.{Sound}
-use Rattle.sheet.specs.Check.{faceTable, face, faceCount, faceFrom, faceTo, edgeTable, columnLevels}
+use Rattle.sheet.specs.Check.{faceTable, face, faceCount, faceFrom, faceTo, edgeTable, columnLevels, column}
 use Rattle.soundness.proofs.Plane.{plane-of}
 use Rattle.soundness.proofs.Columns.{column-law}
-use Rattle.drawing.specs.Draw.{edgeColumn}
-use Rattle.draw.specs.Contracts.{table, sideFace, sides, faceColumns, columnBeside, edgeColumns}
+use Rattle.drawing.specs.Draw.{edgeColumn, rightColumn}
+use Rattle.draw.specs.Contracts.{table, sideFace, sides, faceColumns, columnBeside, Rising, endFrom}
 use Rattle.draw.proofs.Filling.{table-at, table-agree, table-put}
-
--- the columns of the edges, from the left and the right face of each
-pub columns-of : (m count : ℕ) (faces left : List ℕ) → left ≡ sides m 0 faces → (right : List ℕ) → right ≡ sides m 1 faces
-    → (level : List ℕ) → level ≡ faceColumns count m left right → (columns : List ℕ) → columns ≡ table (columnBeside level left) m 256 0 → columns ≡ edgeColumns m count faces
-unfolding edgeColumns
-columns-of m count faces left l right r level v columns c = rw (c, v, l, r) refl
+use Rattle.draw.proofs.Ends.{endColumn}
 
 module _ {s : Sheet} (S : Sound s) where
   faces : List ℕ
@@ -65,31 +62,45 @@ module _ {s : Sheet} (S : Sound s) where
   unfolding sides edgeTable table
   to-table = table-put (sideFace 1 faces) 256 0 (faceTo s) (s .edges) 0 _ some (side-at 0 0 some ∙ to-root) (λ k _ n. to-other k n)
 
-  levels-are : faceColumns (faceCount s) (s .edges) (sides (s .edges) 0 faces) (sides (s .edges) 1 faces) ≡ columnLevels s .level
-  unfolding faceColumns columnLevels
+  pub levels-are : faceColumns (faceCount s) (s .edges) (sides (s .edges) 0 (faceTable s .orbit)) (sides (s .edges) 1 (faceTable s .orbit)) ≡ columnLevels s .level
+  unfolding faceColumns columnLevels faces
   levels-are =
       ap (λ l. levelsOf (faceCount s) (s .edges) l (set (sides (s .edges) 1 faces) 0 (getD (sides (s .edges) 0 faces) 0 0)) .level) from-table
       ∙ ap (λ l. levelsOf (faceCount s) (s .edges) (edgeTable (faceFrom s) s) l .level) to-table
 
-  beside-is : (k : ℕ) → k < s .edges
-      → columnBeside (faceColumns (faceCount s) (s .edges) (sides (s .edges) 0 faces) (sides (s .edges) 1 faces)) (sides (s .edges) 0 faces) k ≡ edgeColumn s k
-  unfolding columnBeside edgeColumn
-  beside-is k h = rw (levels-are, side-at 0 k h, left-of k) refl
+  -- the columns of the faces on either side
+  left-column : (k : ℕ) → k < s .edges → columnBeside (columnLevels s .level) (sides (s .edges) 0 (faceTable s .orbit)) k ≡ edgeColumn s k
+  unfolding columnBeside edgeColumn faces
+  left-column k h = ap (column s) (side-at 0 k h ∙ left-of k)
 
-  pub columns-are : edgeColumns (s .edges) (faceCount s) (faceTable s .orbit) ≡ table (edgeColumn s) (s .edges) 256 0
-  unfolding edgeColumns faces
-  columns-are = table-agree _ 256 0 (edgeColumn s) (s .edges) beside-is
+  right-column : (k : ℕ) → k < s .edges → columnBeside (columnLevels s .level) (sides (s .edges) 1 (faceTable s .orbit)) k ≡ rightColumn s k
+  unfolding columnBeside rightColumn sideFace faces
+  right-column k h = ap (column s) (side-at 1 k h)
 
-  left-below : (k : ℕ) → k < s .edges → face s (tailDart k) < faceCount s
-  left-below k h = column-law S .faces .inside (tailDart k) (omega arith)
+  pub columns-are : table (columnBeside (columnLevels s .level) (sides (s .edges) 0 (faceTable s .orbit))) (s .edges) 256 0 ≡ table (edgeColumn s) (s .edges) 256 0
+  columns-are = table-agree _ 256 0 (edgeColumn s) (s .edges) left-column
+
+  pub rising : Rising (s .edges) (columnLevels s .level) (sides (s .edges) 1 (faceTable s .orbit))
+  unfolding rightColumn
+  rising k h n = omega (arith, right-column k h, column-law S .rises k h n)
+
+  pub ends-are : table (endFrom (columnLevels s .level) (sides (s .edges) 1 (faceTable s .orbit)) (edgeColumn s 0)) (s .edges) 256 0 ≡ table (endColumn s) (s .edges) 256 0
+  unfolding endFrom endColumn
+  ends-are = table-agree _ 256 0 (endColumn s) (s .edges) (λ k h. ap (λ c. cond (eqb k 0) (edgeColumn s 0) (c - 1)) (right-column k h))
+
+  -- ---- how many faces there are
+
+  face-below : (side k : ℕ) → side < 2 → k < s .edges → sideFace side faces k < faceCount s
+  unfolding sideFace faces
+  face-below side k i h = column-law S .faces .inside (2 * k + side) (omega arith)
 
   few-faces : faceCount s ≤ 256
   few-faces = omega (arith, S .limits .edges-most, S .limits .vertices-least, plane-of S .euler)
 
-  pub left-in : Ends 256 (s .edges) (sides (s .edges) 0 (faceTable s .orbit))
+  pub side-in : (side : ℕ) → side < 2 → Ends 256 (s .edges) (sides (s .edges) side (faceTable s .orbit))
   unfolding faces
-  left-in = record { few = S .limits .edges-most; inside = λ k h. omega (arith, side-at 0 k h, left-of k, left-below k h, few-faces) }
+  side-in side i = record { few = S .limits .edges-most; inside = λ k h. omega (arith, side-at side k h, face-below side k i h, few-faces) }
 
   pub column-small : (k : ℕ) → k < s .edges → edgeColumn s k < 256
   unfolding edgeColumn
-  column-small k h = omega (arith, column-law S .fewer (face s (tailDart k)) (left-below k h), few-faces)
+  column-small k h = omega (arith, column-law S .fewer (face s (tailDart k)) (column-law S .faces .inside (tailDart k) (omega arith)), few-faces)

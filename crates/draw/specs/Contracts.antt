@@ -1,7 +1,9 @@
 -- What the functions behind draw compute, over the lists that they read.
-use Prim.Native.Nat.{ℕ, zero, suc, _+_, _-_, _*_, min, max}
+use Prim.Native.Nat.{ℕ, zero, suc, _+_, _-_, _*_, _<_, min, max}
+use mathlib.Core.Logic.{_≢_}
 use mathlib.Core.Bool.{Bool, cond}
 use mathlib.Core.List.{List, _++_}
+use lib.Dec.{eqb}
 use lib.ListN.{getD, set, replicate}
 use Rattle.counting.specs.Below.{tabulate}
 use Rattle.digraph.specs.Relaxed.{levelsOf}
@@ -32,9 +34,13 @@ faceColumns count m left right = levelsOf count m (set left 0 (getD right 0 0)) 
 unfoldable pub columnBeside : List ℕ → List ℕ → ℕ → ℕ
 columnBeside level beside k = getD level (getD beside k 0) 0
 
--- the column of each edge
-unfoldable pub edgeColumns : ℕ → ℕ → List ℕ → List ℕ
-edgeColumns m count faces = table (columnBeside (faceColumns count m (sides m 0 faces) (sides m 1 faces)) (sides m 0 faces)) m 256 0
+-- the faces to the right of m edges are right of the first column, but for that of edge 0
+abbrev pub Rising : ℕ → List ℕ → List ℕ → Type 0
+Rising m level right = (k : ℕ) → k < m → k ≢ 0 → 0 < columnBeside level right k
+
+-- how far right edge k lets its vertices go: to the column before the face to its right; edge 0 to the column `last`
+unfoldable pub endFrom : List ℕ → List ℕ → ℕ → ℕ → ℕ
+endFrom level right last k = cond (eqb k 0) last (columnBeside level right k - 1)
 
 -- an edge's segment, from the rows of the vertices and the columns of the edges
 unfoldable pub edgeFrom : Sheet → List ℕ → List ℕ → ℕ → EdgeSegment
@@ -50,22 +56,22 @@ unfoldable pub unreachedFrom : List ℕ → ℕ → VertexSegment
 unreachedFrom rows v = record { row = getD rows v 0; first = 256; last = 0 }
 
 -- a vertex's segment from the first k edges
-unfoldable pub vertexFrom : Sheet → List ℕ → List ℕ → ℕ → ℕ → VertexSegment
-vertexFrom s rows columns k v = record {
+unfoldable pub vertexFrom : Sheet → List ℕ → List ℕ → List ℕ → ℕ → ℕ → VertexSegment
+vertexFrom s rows columns ends k v = record {
   row = getD rows v 0;
   first = bestBelow min 256 (λ j. touches s j v) (λ j. getD columns j 0) k;
-  last = bestBelow max 0 (λ j. touches s j v) (λ j. getD columns j 0) k;
+  last = bestBelow max 0 (λ j. touches s j v) (λ j. getD ends j 0) k;
 }
 
--- a segment, widened to a column
-abbrev pub widenedBy : VertexSegment → ℕ → VertexSegment
-widenedBy at column = record { row = at .row; first = min (at .first) column; last = max (at .last) column }
+-- a segment, widened to a column on the left and to one on the right
+abbrev pub widenedBy : VertexSegment → ℕ → ℕ → VertexSegment
+widenedBy at column end = record { row = at .row; first = min (at .first) column; last = max (at .last) end }
 
--- the drawing, from the rows of the vertices and the columns of the edges
-unfoldable pub drawingFrom : Sheet → List ℕ → List ℕ → Drawing
-drawingFrom s rows columns = record {
+-- the drawing, from the rows of the vertices, the columns of the edges and how far right these let their vertices go
+unfoldable pub drawingFrom : Sheet → List ℕ → List ℕ → List ℕ → Drawing
+drawingFrom s rows columns ends = record {
   rows = getD rows 1 0 + 1;
   columns = getD columns 0 0 + 1;
-  vertices = table (vertexFrom s rows columns (s .edges)) (s .vertices) 128 noVertexSegment;
+  vertices = table (vertexFrom s rows columns ends (s .edges)) (s .vertices) 128 noVertexSegment;
   edges = table (edgeFrom s rows columns) (s .edges) 256 noEdgeSegment;
 }

@@ -4,8 +4,9 @@ ghost use Prim.Native.Nat.{_≤_, _<_, min, max};
 ghost use lib.ListN.{getD};
 ghost use Rattle.clauses.specs.Contracts.{Ends};
 ghost use Rattle.sheet.specs.Sound.{Sound};
-ghost use Rattle.drawing.specs.Draw.{noVertexSegment, noEdgeSegment, zeroDrawing, drawCall};
-ghost use Rattle.draw.specs.Contracts.{table, sides, faceColumns, columnBeside, edgeColumns, edgeFrom, unreachedFrom, vertexFrom, widenedBy, drawingFrom};
+ghost use Rattle.sheet.specs.Check.{rowLevels, faceTable, faceCount};
+ghost use Rattle.drawing.specs.Draw.{noVertexSegment, noEdgeSegment, drawingOf, zeroDrawing, drawCall};
+ghost use Rattle.draw.specs.Contracts.{table, sides, faceColumns, columnBeside, Rising, endFrom, edgeFrom, unreachedFrom, vertexFrom, widenedBy, drawingFrom};
 use answers::Answer;
 use answers::is_accepted;
 use counting::wide;
@@ -59,15 +60,20 @@ fn columns_beside(m: usize, level: &[u16; 256], beside: &[u16; 256]) -> [u16; 25
     columns
 }
 
-// The column of each of m edges, that of its left face.
-fn edge_columns(m: usize, count: usize, faces: &[u16; 512]) -> [u16; 256]
-    requires { ⌜ Ends 256 m (sides m 0 (now faces)) ⌝ }
-    ensures { λ r. ⌜ r ≡ edgeColumns m count (now (faces .entry)) ⌝ }
+// How far right each of m edges lets its vertices go: to the column before the face to its right; edge 0, the last, to its own column.
+fn right_ends(m: usize, level: &[u16; 256], right: &[u16; 256], last: u16) -> [u16; 256]
+    requires { ⌜ (0 < m) × Ends 256 m (now right) × Rising m (now level) (now right) ⌝ }
+    ensures { λ r. ⌜ r ≡ table (endFrom (now (level .entry)) (now (right .entry)) last) m 256 0 ⌝ }
 {
-    let left = side_faces(m, 0, faces);
-    let right = side_faces(m, 1, faces);
-    let level = face_columns(m, count, left, right);
-    columns_beside(m, &level, &left)
+    let mut ends = [0u16; 256];
+    ends[0] = last;
+    let mut k = 1;
+    while k < m {
+        let face = wide(right[k]);
+        ends[k] = level[face] - 1;
+        k += 1;
+    }
+    ends
 }
 
 // The segment of each edge.
@@ -108,14 +114,14 @@ fn greater(a: u16, b: u16) -> u16
     if a < b { b } else { a }
 }
 
-// A vertex's segment, widened to an edge's column.
-fn widened(at: VertexSegment, column: u16) -> VertexSegment
-    ensures { λ r. ⌜ r ≡ widenedBy at column ⌝ }
+// A vertex's segment, widened on the left to an edge's column and on the right as far as the edge lets it go.
+fn widened(at: VertexSegment, column: u16, end: u16) -> VertexSegment
+    ensures { λ r. ⌜ r ≡ widenedBy at column end ⌝ }
 {
     VertexSegment {
         row: at.row,
         first: lesser(at.first, column),
-        last: greater(at.last, column),
+        last: greater(at.last, end),
     }
 }
 
@@ -141,31 +147,36 @@ fn unreached(n: usize, rows: &[u16; 256]) -> [VertexSegment; 128]
     vertices
 }
 
-// The segment of each vertex, widened to the column of each of its edges.
-fn vertex_segments(s: Sheet, rows: &[u16; 256], columns: &[u16; 256]) -> [VertexSegment; 128]
+// The segment of each vertex, widened by each of its edges.
+fn vertex_segments(
+    s: Sheet,
+    rows: &[u16; 256],
+    columns: &[u16; 256],
+    ends: &[u16; 256],
+) -> [VertexSegment; 128]
     requires { ⌜ Sound s ⌝ }
-    ensures { λ r. ⌜ r ≡ table (vertexFrom s (now (rows .entry)) (now (columns .entry)) (s .edges)) (s .vertices) 128 noVertexSegment ⌝ }
+    ensures { λ r. ⌜ r ≡ table (vertexFrom s (now (rows .entry)) (now (columns .entry)) (now (ends .entry)) (s .edges)) (s .vertices) 128 noVertexSegment ⌝ }
 {
     let mut vertices = unreached(s.vertices, rows);
     let mut k = 0;
     while k < s.edges {
         let tail = wide(s.tails[k]);
         let below = vertices[tail];
-        vertices[tail] = widened(below, columns[k]);
+        vertices[tail] = widened(below, columns[k], ends[k]);
         let head = wide(s.heads[k]);
         let above = vertices[head];
-        vertices[head] = widened(above, columns[k]);
+        vertices[head] = widened(above, columns[k], ends[k]);
         k += 1;
     }
     vertices
 }
 
-// The drawing, from the rows of the vertices and the columns of the edges.
-fn compose(s: Sheet, rows: &[u16; 256], columns: &[u16; 256]) -> Drawing
+// The drawing, from the rows of the vertices, the columns of the edges and how far right these let their vertices go.
+fn compose(s: Sheet, rows: &[u16; 256], columns: &[u16; 256], ends: &[u16; 256]) -> Drawing
     requires { ⌜ Sound s × (getD (now rows) 1 0 < 256) × (getD (now columns) 0 0 < 256) ⌝ }
-    ensures { λ r. ⌜ r ≡ drawingFrom s (now (rows .entry)) (now (columns .entry)) ⌝ }
+    ensures { λ r. ⌜ r ≡ drawingFrom s (now (rows .entry)) (now (columns .entry)) (now (ends .entry)) ⌝ }
 {
-    let vertices = vertex_segments(s, rows, columns);
+    let vertices = vertex_segments(s, rows, columns, ends);
     let edges = edge_segments(s, rows, columns);
     Drawing {
         rows: rows[1] + 1,
@@ -173,6 +184,19 @@ fn compose(s: Sheet, rows: &[u16; 256], columns: &[u16; 256]) -> Drawing
         vertices,
         edges,
     }
+}
+
+// The drawing of a sound sheet, from the rows of its vertices and the numbers of its faces.
+fn lay_out(s: Sheet, rows: &[u16; 256], faces: &[u16; 512], count: usize) -> Drawing
+    requires { ⌜ Sound s × (now rows ≡ rowLevels s .level) × (now faces ≡ faceTable s .orbit) × (count ≡ faceCount s) ⌝ }
+    ensures { λ r. ⌜ r ≡ drawingOf s ⌝ }
+{
+    let left = side_faces(s.edges, 0, faces);
+    let right = side_faces(s.edges, 1, faces);
+    let level = face_columns(s.edges, count, left, right);
+    let columns = columns_beside(s.edges, &level, &left);
+    let ends = right_ends(s.edges, &level, &right, columns[0]);
+    compose(s, rows, &columns, &ends)
 }
 
 // The record of zeros.
@@ -209,8 +233,7 @@ pub fn draw(s: Sheet) -> Drawn
     }
     let rows = found.rows;
     let faces = found.faces;
-    let columns = edge_columns(s.edges, found.count, &faces);
-    let drawing = compose(s, &rows, &columns);
+    let drawing = lay_out(s, &rows, &faces, found.count);
     Drawn {
         answer: Answer::Accepted,
         drawing,

@@ -66,7 +66,7 @@ module _ {s : Sheet} (S : Sound s) where
       let U = to-map true v k F in
       let W = to-map false v l G in
       let (q, R, e) = has-corners B .right (rw (U .at-v) at (B .vertex-below (U .below)))
-          (λ z. clash (B .source (W .below) (W .at-v ∙ z)) (W .kind)) (λ z. clash (U .kind) (B .sink (U .below) (U .at-v ∙ z))) in
+      (λ z. clash (B .source (W .below) (W .at-v ∙ z)) (W .kind)) (λ z. clash (U .kind) (B .sink (U .below) (U .at-v ∙ z))) in
       renumbered S (column-law S .faces) o (headDart k) (headDart l) (dart-below false (F .inside)) (dart-below false (G .inside))
       (right-of true v k q R e F ∙ sym (right-of false v l q R e G))
 
@@ -86,8 +86,7 @@ module _ {s : Sheet} (S : Sound s) where
       let below = dart-below false (U .inside) in
       let C = column-law S in
       let ends : column s (face s (headDart (q / 2))) ≡ vertexOf D v .last + 1
-      = omega (arith, ap (column s) (right-of true v (q / 2) q R e U), long-of S .ends R, ap (lastColumn s) e, last-is v h) in
-      (
+      = omega (arith, ap (column s) (right-of true v (q / 2) q R e U), long-of S .ends R, ap (lastColumn s) e, last-is v h) in (
         rightFace label (q / 2),
         record {
           upward = q / 2;
@@ -98,7 +97,7 @@ module _ {s : Sheet} (S : Sound s) where
           right-of-downward = sym (one-right label f o v (q / 2) (next s q / 2) U W);
         },
         subst (Column s label (rightFace label (q / 2))) ends
-        (column-renumbered S (C .faces) o (headDart (q / 2)) below (C .longest (face s (headDart (q / 2))) (C .faces .inside (headDart (q / 2)) below))),
+            (column-renumbered S (C .faces) o (headDart (q / 2)) below (C .longest (face s (headDart (q / 2))) (C .faces .inside (headDart (q / 2)) below))),
       )
 
 pub one-face-law : One-Face-Law

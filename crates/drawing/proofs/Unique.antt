@@ -1,4 +1,4 @@
--- What is laid down of a sound sheet's drawing leaves no choice: two drawings that meet it are equal, so it is the computed one.
+-- What is laid down of a sound sheet's drawing leaves no choice: a drawing that meets it is the computed one.
 use mathlib.Core.Path.{_≡_, refl, sym, _∙_, ap, subst}
 use mathlib.Core.Logic.{_≢_, by-cases}
 use mathlib.Core.List.{List}

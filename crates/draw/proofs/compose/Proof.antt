@@ -11,17 +11,17 @@ vertex-segments-requires c κs = search needs
 edge-segments-requires : tie.Need-edge-segments-requires
 edge-segments-requires c κs = search needs
 
-element-copy-out-t8 : tie.Need-element-copy-out-t8
-element-copy-out-t8 c = search needs
+element-copy-out-t9 : tie.Need-element-copy-out-t9
+element-copy-out-t9 c = search needs
 
-add-t9 : tie.Need-add-t9
-add-t9 c = search needs
+add-t10 : tie.Need-add-t10
+add-t10 c = search needs
 
-element-copy-out-t12 : tie.Need-element-copy-out-t12
-element-copy-out-t12 c = search needs
+element-copy-out-t13 : tie.Need-element-copy-out-t13
+element-copy-out-t13 c = search needs
 
-add-t13 : tie.Need-add-t13
-add-t13 c = search needs
+add-t14 : tie.Need-add-t14
+add-t14 c = search needs
 
 returns : tie.Need-returns
 unfolding drawingFrom
@@ -33,8 +33,8 @@ compose-spec =
     (tie.spec
     vertex-segments-requires
     edge-segments-requires
-    element-copy-out-t8
-    add-t9
-    element-copy-out-t12
-    add-t13
+    element-copy-out-t9
+    add-t10
+    element-copy-out-t13
+    add-t14
     returns)

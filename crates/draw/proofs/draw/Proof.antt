@@ -6,7 +6,7 @@ use Rattle.sheet.specs.Darts.{Sized}
 use Rattle.sheet.specs.Sound.{Sound}
 use Rattle.sheet.specs.Check.{sound}
 use Rattle.soundness.proofs.Law.{sound-law}
-use Rattle.draw.proofs.Outcome.{not-sound, answered, faces-in, all-small, all-drawn}
+use Rattle.draw.proofs.Outcome.{not-sound, is-sound, answered, laid-from}
 use borrow.Author.Needs.{needs}
 use Rattle.draw.proofs.draw.Statement.{statement}
 use Rattle.draw.proofs.draw.Tie as tie
@@ -33,20 +33,11 @@ zeros-requires c κs = search needs
 returns : tie.Need-returns
 returns c = not-sound _ (answered _ _ (c .before .before .before .examine .ensures) _ _ (c .before .before .is-accepted .ensures) (not-true _ (c .before .if1 .taken))) _ (c .zeros .ensures)
 
-edge-columns-requires : tie.Need-edge-columns-requires
-edge-columns-requires c κs = let accepted = c .before .before .before in faces-in _ _ (accepted .before .before .examine .ensures) (has-sound accepted) (is-so accepted)
-
-compose-requires : tie.Need-compose-requires
-compose-requires c κs =
-    let columns = c .before .before in
-    let accepted = columns .before .before .before .before in
-    all-small _ _ (accepted .before .before .examine .ensures) (has-sound accepted) (is-so accepted) _ (columns .edge-columns .ensures)
+lay-out-requires : tie.Need-lay-out-requires
+lay-out-requires c κs = let accepted = c .before .before .before .before in laid-from _ _ (accepted .before .before .examine .ensures) (has-sound accepted) (is-so accepted)
 
 returns-2 : tie.Need-returns-2
-returns-2 c =
-    let columns = c .before .before .before in
-    let accepted = columns .before .before .before .before in
-    all-drawn _ _ (accepted .before .before .examine .ensures) (has-sound accepted) (is-so accepted) _ (columns .edge-columns .ensures) _ (c .compose .ensures)
+returns-2 c = is-sound _ (is-so (c .before .before .before .before .before)) _ (c .lay-out .ensures)
 
 pub draw-spec : {M : Type 1} → statement M
 draw-spec =
@@ -56,6 +47,5 @@ draw-spec =
     is-accepted-requires
     zeros-requires
     returns
-    edge-columns-requires
-    compose-requires
+    lay-out-requires
     returns-2)

@@ -12,10 +12,10 @@ use Rattle.draw.proofs.vertex_segments.Statement.{statement}
 use Rattle.draw.proofs.vertex_segments.Tie as tie
 
 abbrev Inv-loop : tie.InvT-loop
-Inv-loop rows columns s vertices₀ k₀ vertices k = (k ≤ s .edges) × (vertices ≡ table (vertexFrom s rows columns k) (s .vertices) 128 noVertexSegment)
+Inv-loop rows columns ends s vertices₀ k₀ vertices k = (k ≤ s .edges) × (vertices ≡ table (vertexFrom s rows columns ends k) (s .vertices) 128 noVertexSegment)
 
 abbrev μ-loop : tie.MeasureT-loop
-μ-loop rows columns s vertices₀ k₀ vertices k = s .edges - k
+μ-loop rows columns ends s vertices₀ k₀ vertices k = s .edges - k
 
 unreached-requires : tie.Need-unreached-requires Inv-loop μ-loop
 unreached-requires c κs = search needs
@@ -28,10 +28,10 @@ tail-in : (c : tie.After-wide Inv-loop μ-loop) → c .wide .result < 128
 tail-in c = omega (arith, c .wide .ensures .0, joins (c .before .before) .tail-in, c .before .before .before .before .before .pre .limits .vertices-most)
 
 head-in : (c : tie.After-wide2 Inv-loop μ-loop) → c .wide2 .result < 128
-head-in c = omega (arith, c .wide2 .ensures .0, joins (c .before .before .before .before .before .before .before) .head-in, c .before .before .before .before .before .before .before .before .before .before .pre .limits .vertices-most)
+head-in c = omega (arith, c .wide2 .ensures .0, joins (c .before .before .before .before .before .before .before .before) .head-in, c .before .before .before .before .before .before .before .before .before .before .before .pre .limits .vertices-most)
 
 loop-holds : tie.Need-loop-holds Inv-loop μ-loop
-loop-holds c = (search needs, c .unreached .ensures ∙ table-agree _ 128 noVertexSegment _ _ (λ v _. reached-none _ _ _ v))
+loop-holds c = (search needs, c .unreached .ensures ∙ table-agree _ 128 noVertexSegment _ _ (λ v _. reached-none _ _ _ _ v))
 
 mul-wide : tie.Need-mul-wide Inv-loop μ-loop
 mul-wide c = search needs
@@ -54,6 +54,12 @@ mul-widened c = search needs
 element-copy-out-widened : tie.Need-element-copy-out-widened Inv-loop μ-loop
 element-copy-out-widened c = search needs
 
+mul-widened-2 : tie.Need-mul-widened-2 Inv-loop μ-loop
+mul-widened-2 c = search needs
+
+element-copy-out-widened-2 : tie.Need-element-copy-out-widened-2 Inv-loop μ-loop
+element-copy-out-widened-2 c = search needs
+
 widened-requires : tie.Need-widened-requires Inv-loop μ-loop
 widened-requires c κs = search needs
 
@@ -61,7 +67,7 @@ mul-vertices : tie.Need-mul-vertices Inv-loop μ-loop
 mul-vertices c = search needs
 
 array-set-from-vertices : tie.Need-array-set-from-vertices Inv-loop μ-loop
-array-set-from-vertices c = tail-in (c .before .before .before)
+array-set-from-vertices c = tail-in (c .before .before .before .before)
 
 mul-wide-2 : tie.Need-mul-wide-2 Inv-loop μ-loop
 mul-wide-2 c = search needs
@@ -78,11 +84,17 @@ mul-above c = search needs
 array-copy-out-above : tie.Need-array-copy-out-above Inv-loop μ-loop
 array-copy-out-above c = head-in c
 
-mul-widened-2 : tie.Need-mul-widened-2 Inv-loop μ-loop
-mul-widened-2 c = search needs
+mul-widened-3 : tie.Need-mul-widened-3 Inv-loop μ-loop
+mul-widened-3 c = search needs
 
-element-copy-out-widened-2 : tie.Need-element-copy-out-widened-2 Inv-loop μ-loop
-element-copy-out-widened-2 c = search needs
+element-copy-out-widened-3 : tie.Need-element-copy-out-widened-3 Inv-loop μ-loop
+element-copy-out-widened-3 c = search needs
+
+mul-widened-4 : tie.Need-mul-widened-4 Inv-loop μ-loop
+mul-widened-4 c = search needs
+
+element-copy-out-widened-4 : tie.Need-element-copy-out-widened-4 Inv-loop μ-loop
+element-copy-out-widened-4 c = search needs
 
 widened-requires-2 : tie.Need-widened-requires-2 Inv-loop μ-loop
 widened-requires-2 c κs = search needs
@@ -91,7 +103,7 @@ mul-vertices-2 : tie.Need-mul-vertices-2 Inv-loop μ-loop
 mul-vertices-2 c = search needs
 
 array-set-from-vertices-2 : tie.Need-array-set-from-vertices-2 Inv-loop μ-loop
-array-set-from-vertices-2 c = head-in (c .before .before .before)
+array-set-from-vertices-2 c = head-in (c .before .before .before .before)
 
 add-k : tie.Need-add-k Inv-loop μ-loop
 add-k c = search needs
@@ -101,10 +113,10 @@ loop-less c = search needs
 
 loop-again : tie.Need-loop-again Inv-loop μ-loop
 loop-again c =
-    let at-head = c .before .before .before in
-    let at-tail = at-head .before .before .before .before .before in
+    let at-head = c .before .before .before .before in
+    let at-tail = at-head .before .before .before .before .before .before in
     let in-loop = at-tail .before .before in
-    (search needs, widened-more _ _ _ _ (joins in-loop) _ (in-loop .before .loop .inv .1) _ (at-tail .wide .ensures .0) _ (at-head .wide2 .ensures .0) _ (at-head .before .before .widened .ensures) _ (c .widened2 .ensures))
+    (search needs, widened-more _ _ _ _ _ (joins in-loop) _ (in-loop .before .loop .inv .1) _ (at-tail .wide .ensures .0) _ (at-head .wide2 .ensures .0) _ (at-head .before .before .widened .ensures) _ (c .widened2 .ensures))
 
 returns : tie.Need-returns Inv-loop μ-loop
 returns c = let z : c .before .loop .k ≡ c .before .before .before .args .t1 .edges = omega arith in rw z at (c .before .loop .inv .1)
@@ -124,6 +136,8 @@ vertex-segments-spec =
     array-copy-out-below
     mul-widened
     element-copy-out-widened
+    mul-widened-2
+    element-copy-out-widened-2
     widened-requires
     mul-vertices
     array-set-from-vertices
@@ -132,8 +146,10 @@ vertex-segments-spec =
     wide-requires-2
     mul-above
     array-copy-out-above
-    mul-widened-2
-    element-copy-out-widened-2
+    mul-widened-3
+    element-copy-out-widened-3
+    mul-widened-4
+    element-copy-out-widened-4
     widened-requires-2
     mul-vertices-2
     array-set-from-vertices-2

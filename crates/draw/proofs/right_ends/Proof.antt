@@ -1,0 +1,92 @@
+-- `draw::right_ends` meets its contract. The first k entries are filled. Assumes nothing.
+use Prim.Native.Nat.{_-_, _≤_, _<_}
+use mathlib.Core.Path.{_≡_, refl}
+use mathlib.Core.Logic.{_≢_}
+use native.Mathlib.Omega.{arith}
+use borrow.Author.Tests.{ne-eqb}
+use Rattle.draw.specs.Contracts.{table, columnBeside, endFrom}
+use Rattle.draw.proofs.Filling.{table-none, table-more, table-over}
+use borrow.Author.Needs.{needs}
+use Rattle.draw.proofs.right_ends.Statement.{statement}
+use Rattle.draw.proofs.right_ends.Tie as tie
+
+abbrev Inv-loop : tie.InvT-loop
+Inv-loop m level right last ends₀ k₀ ends k = (0 < k) × (k ≤ m) × (ends ≡ table (endFrom level right last) k 256 0)
+
+abbrev μ-loop : tie.MeasureT-loop
+μ-loop m level right last ends₀ k₀ ends k = m - k
+
+array-write-ends : tie.Need-array-write-ends Inv-loop μ-loop
+array-write-ends c = search needs
+
+loop-holds : tie.Need-loop-holds Inv-loop μ-loop
+unfolding endFrom
+loop-holds c = (omega arith, c .pre .0, table-more _ 256 0 0 (omega arith) _ (table-none _ 256 0) _ refl)
+
+mul-wide : tie.Need-mul-wide Inv-loop μ-loop
+mul-wide c = search needs
+
+element-copy-out-wide : tie.Need-element-copy-out-wide Inv-loop μ-loop
+element-copy-out-wide c = search needs
+
+wide-requires : tie.Need-wide-requires Inv-loop μ-loop
+wide-requires c κs = search needs
+
+mul-ends : tie.Need-mul-ends Inv-loop μ-loop
+mul-ends c = search needs
+
+element-copy-out-ends : tie.Need-element-copy-out-ends Inv-loop μ-loop
+element-copy-out-ends c = let at-loop = c .before .before .before in omega (arith, c .wide .ensures .0, at-loop .before .pre .1 .inside (at-loop .loop .k) (c .before .before .loop-test .taken))
+
+-- the face to the right of the edge at hand is not in the first column
+sub-ends : tie.Need-sub-ends Inv-loop μ-loop
+unfolding columnBeside
+sub-ends c =
+    let at-loop = c .before .before .before .before in
+    let k = at-loop .loop .k in
+    let rises = at-loop .before .pre .2 k (c .before .before .before .loop-test .taken) (λ e. omega (arith, at-loop .loop .inv .0)) in
+    rw (c .before .wide .ensures .0) rises
+
+mul-ends-2 : tie.Need-mul-ends-2 Inv-loop μ-loop
+mul-ends-2 c = search needs
+
+array-write-ends-2 : tie.Need-array-write-ends-2 Inv-loop μ-loop
+array-write-ends-2 c = search needs
+
+add-k : tie.Need-add-k Inv-loop μ-loop
+add-k c = search needs
+
+loop-less : tie.Need-loop-less Inv-loop μ-loop
+loop-less c = search needs
+
+loop-again : tie.Need-loop-again Inv-loop μ-loop
+unfolding endFrom columnBeside
+loop-again c =
+    let at-loop = c .before .before .before .before in
+    let k = at-loop .loop .k in
+    let other : k ≢ 0 = λ e. omega (arith, at-loop .loop .inv .0) in
+    (omega arith, search needs, table-more _ 256 0 k (omega arith) _ (at-loop .loop .inv .2) _ (rw (ne-eqb k 0 other, c .before .wide .ensures .0) refl))
+
+returns : tie.Need-returns Inv-loop μ-loop
+returns c = table-over _ 256 0 (c .before .loop .k) _ _ (c .before .loop .inv .2) (omega arith) (omega arith)
+
+pub right-ends-spec : {M : Type 1} → statement M
+right-ends-spec =
+    tie.close
+    (tie.spec
+    Inv-loop
+    μ-loop
+    array-write-ends
+    loop-holds
+    mul-wide
+    element-copy-out-wide
+    wide-requires
+    mul-ends
+    element-copy-out-ends
+    sub-ends
+    mul-ends-2
+    array-write-ends-2
+    add-k
+    loop-less
+    loop-again
+    returns)
