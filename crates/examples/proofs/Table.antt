@@ -24,7 +24,7 @@ use Rattle.edit.specs.Lines.{editOf, lineLength}
 use Rattle.edit.specs.Reaching.{marked, markedTimes, leadsTo}
 use Rattle.edit.specs.Changes.{renamed, replaceDart, insertDart, removeDart, putIn, runEdge, lastEdgeTo, lastVertexTo, takeOutEdge, takeOutVertex, incomingEdge, outgoingEdge}
 use Rattle.edit.specs.Calls.{putInAnswer, cornerFace, runAnswer, outDegree, inDegree, takeOutEdgeAnswer, takeOutVertexAnswer, edited, apply}
-use Rattle.drawing.specs.Draw.{edgeColumn, columnsAt, least, greatest, vertexSegment, edgeSegment, drawingOf}
+use Rattle.drawing.specs.Draw.{edgeColumn, rightColumn, columnsAt, least, greatest, firstColumn, lastColumn, vertexSegment, edgeSegment, drawingOf}
 use Rattle.drawing.specs.Write.{vertexLine, edgeLine, drawingText}
 use Rattle.program.specs.Program.{refusedLine, editOutput, editsOutput, loadedOutput, plateOutput}
 use Rattle.examples.specs.Described.{ringsFrom, edgesFrom, described}
@@ -34,7 +34,7 @@ use Rattle.examples.specs.Printed.{Plates-Printed}
 use Rattle.examples.proofs.Lists.{each-printed}
 
 printed : allPrinted plates ≡ true
-unfolding count allBelow someBelow lowestBelow listBelow tabulate joinBelow traced isPermutation permutesFrom traceFrom walkFrom unnumberedBelow flat joins withinOf raised relaxed rounds climbs digraph.answer levelsOf digitOf numberOf startsWith before lineEndAt afterNumber numbersFrom closed lineAt lastClosed lastLineAt withOne withTwo withFour withSome decimal separated line refusalNumber first isAccepted opposite vertex touchesOf dartOf freshSheet sound withinLimits joined inRings unusedZero rooted acyclic rowLevels poles incoming outgoing planar faceTable columnLevels faceFrom faceTo edgeTable occurrences allIn isRotation linkFrom emptySheet withEdge withNexts judge judged ringLines edgeLines withCount parse loaded editOf lineLength marked markedTimes leadsTo renamed replaceDart insertDart removeDart putIn runEdge lastEdgeTo lastVertexTo takeOutEdge takeOutVertex incomingEdge outgoingEdge putInAnswer cornerFace runAnswer outDegree inDegree takeOutEdgeAnswer takeOutVertexAnswer edited apply edgeColumn columnsAt least greatest vertexSegment edgeSegment drawingOf vertexLine edgeLine drawingText refusedLine editOutput editsOutput loadedOutput plateOutput ringsFrom edgesFrom described structured lines plates same sameSheet asRemarked allPrinted
+unfolding count allBelow someBelow lowestBelow listBelow tabulate joinBelow traced isPermutation permutesFrom traceFrom walkFrom unnumberedBelow flat joins withinOf raised relaxed rounds climbs digraph.answer levelsOf digitOf numberOf startsWith before lineEndAt afterNumber numbersFrom closed lineAt lastClosed lastLineAt withOne withTwo withFour withSome decimal separated line refusalNumber first isAccepted opposite vertex touchesOf dartOf freshSheet sound withinLimits joined inRings unusedZero rooted acyclic rowLevels poles incoming outgoing planar faceTable columnLevels faceFrom faceTo edgeTable occurrences allIn isRotation linkFrom emptySheet withEdge withNexts judge judged ringLines edgeLines withCount parse loaded editOf lineLength marked markedTimes leadsTo renamed replaceDart insertDart removeDart putIn runEdge lastEdgeTo lastVertexTo takeOutEdge takeOutVertex incomingEdge outgoingEdge putInAnswer cornerFace runAnswer outDegree inDegree takeOutEdgeAnswer takeOutVertexAnswer edited apply edgeColumn rightColumn columnsAt least greatest firstColumn lastColumn vertexSegment edgeSegment drawingOf vertexLine edgeLine drawingText refusedLine editOutput editsOutput loadedOutput plateOutput ringsFrom edgesFrom described structured lines plates same sameSheet asRemarked allPrinted
 printed = refl
 
 pub plates-printed : Plates-Printed

@@ -65,6 +65,8 @@ plates =
     ∷ plate "bars=129^" "refused=1|"
     ∷ plate "bars=129^^|" "refused=1|"
     ∷ plate "bars=2|^wires=1|" "refused=1|"
+    -- Bars long enough for the clip: P4 with `in=1`: bar 4 goes from column 0 to 1
+    ∷ plate "bars=4|wires=6|wire=0,1|wire=0,2|wire=2,1|wire=0,3|wire=3,1|wire=2,3|around=1,3,0|around=0,4,2|around=2,5,1|around=4,3,5|in=1|" "rows=5|columns=4|bar=0,0,3|bar=4,0,3|bar=2,0,1|bar=3,1,2|bar=1,0,1|wire=3,0,4|wire=0,0,1|wire=0,2,4|wire=2,0,3|wire=1,3,4|wire=1,2,3|wire=0,1,2|"
     ∷ []
 
 -- two texts are the same

@@ -10,11 +10,12 @@ use Rattle.counting.specs.Orbits.{iter, Reach}
 use Rattle.counting.proofs.Counts.{from-T, to-T}
 use Rattle.counting.proofs.Iterate.{by-bool, not-true}
 use Rattle.planarmap.specs.Map.{Map, Bipolar, Plane, walk}
+use Rattle.planarmap.specs.Corners.{cornerFace}
 use Rattle.planarmap.specs.Columns.{ColumnLaws}
-use Rattle.planarmap.specs.Contact.{edgeColumn, Short, NoContact}
+use Rattle.planarmap.specs.Contact.{edgeColumn, Greatest, Long, NoContact}
 use Rattle.planarmap.specs.Rotation.{Clockwise}
 use Rattle.planarmap.proofs.Laws.{beq-true}
-use Rattle.planarmap.proofs.Spans.{short-extent}
+use Rattle.planarmap.proofs.Spans.{long-extent}
 use Rattle.planarmap.proofs.Contact.{apart}
 use Rattle.planarmap.proofs.Points.{no-contact}
 use Rattle.planarmap.proofs.Rotation.{clockwise}
@@ -141,9 +142,18 @@ firstColumn v = 0
 abbrev pub lastColumn : ℕ → ℕ
 lastColumn = six 1 1 0 0 0 0
 
-pub stack-short : Short stack (λ c. c) firstColumn lastColumn
+stack-greatest : {v : ℕ} → v < 2 → Greatest stack (λ c. c) v (lastColumn v)
 unfolding edgeColumn
-stack-short = record {
+stack-greatest {v} h = record {
+  found = (v, omega arith, same (stack .vertex) (λ v. v) 2 refl h, same lastColumn (λ v. edgeColumn stack (λ c. c) v) 2 refl h);
+  greatest = λ d k p.
+      let l = leb→le (edgeColumn stack (λ c. c) d) (lastColumn (stack .vertex d)) (to-T (every-at (λ d. leb (edgeColumn stack (λ c. c) d) (lastColumn (stack .vertex d))) 6 refl k)) in
+      omega (arith, ap lastColumn p);
+}
+
+pub stack-long : Long stack (λ c. c) firstColumn lastColumn
+unfolding edgeColumn
+stack-long = record {
   begins = λ {v} h. record {
     found = (
       six 2 5 4 0 0 0 v,
@@ -153,22 +163,15 @@ stack-short = record {
     );
     least = λ d k p. omega arith;
   };
-  ends = λ {v} h. record {
-    found = (
-      six 0 1 4 0 0 0 v,
-      less (six 0 1 4 0 0 0) 6 3 refl h,
-      same (λ v. stack .vertex (six 0 1 4 0 0 0 v)) (λ v. v) 3 refl h,
-      same lastColumn (λ v. edgeColumn stack (λ c. c) (six 0 1 4 0 0 0 v)) 3 refl h,
-    );
-    greatest = λ d k p.
-        let l = leb→le (edgeColumn stack (λ c. c) d) (lastColumn (stack .vertex d)) (to-T (every-at (λ d. leb (edgeColumn stack (λ c. c) d) (lastColumn (stack .vertex d))) 6 refl k)) in
-        omega (arith, ap lastColumn p);
-  };
+  ends = λ {k} R. eqb→eq _ _ (to-T (given (λ d. stack .out d && not (stack .out (stack .next d))) (λ d. eqb (suc (lastColumn (stack .vertex d))) (cornerFace stack d)) 6 refl (R .below)
+      (rw (R .first, R .second) refl)));
+  source = stack-greatest (omega arith);
+  sink = stack-greatest (omega arith);
 }
 
 -- so its drawing touches nowhere it should not, and its rotations are clockwise
 pub stack-no-contact : NoContact stack (λ c. c) firstColumn lastColumn
-stack-no-contact = no-contact (apart stack-plane stack-columns (short-extent stack-plane stack-columns stack-short))
+stack-no-contact = no-contact (apart stack-plane stack-columns (long-extent stack-plane stack-columns stack-long))
 
 pub stack-clockwise : Clockwise stack (λ c. c)
 stack-clockwise = clockwise stack-plane stack-columns

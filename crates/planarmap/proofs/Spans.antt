@@ -1,5 +1,5 @@
--- The edges of a vertex stand between the faces to its left and to its right; so vertices that begin and end at their edges, or reach on to the
--- face to their right, are within the limits.
+-- The edges of a vertex stand between the faces to its left and to its right; so vertices that begin at their edges and go on to the face to their
+-- right are within the limits, and reach all their edges.
 use mathlib.Core.Path.{_≡_, refl, sym, ap}
 use mathlib.Core.Bool.{Bool, true, false}
 use Prim.Native.Nat.{ℕ, _≤_, _<_}
@@ -10,7 +10,7 @@ use Rattle.counting.proofs.Iterate.{by-bool}
 use Rattle.planarmap.specs.Map.{Map, Bipolar, Plane}
 use Rattle.planarmap.specs.Corners.{Left, Right, cornerFace, OneCorner}
 use Rattle.planarmap.specs.Columns.{ColumnLaws}
-use Rattle.planarmap.specs.Contact.{Extent, edgeColumn, Least, Short, Long, Reaches}
+use Rattle.planarmap.specs.Contact.{Extent, edgeColumn, Least, Long, Reaches}
 use Rattle.planarmap.proofs.Laws.{off-root}
 use Rattle.planarmap.proofs.Corners.{has-corners, one-corner}
 use Rattle.planarmap.proofs.Frontier.{from-corner, to-corner}
@@ -53,26 +53,17 @@ module _ {M : Map} (P : Plane M) {column : ℕ → ℕ} (L : ColumnLaws M column
       rw (column-of M column false d i)
       (leb-false (at (M .next k)) c (from-corner B (closed P L c) K false A h e i (gt-is (at d) c (rises-at P L false h i (off-root B A e false))))))
 
-  -- ---- the two ways to draw a vertex
+  -- ---- how a vertex is drawn
 
   from-least : {l k : ℕ} → Left M l → Least M column (M .vertex l) k → column (cornerFace M l) ≤ k
   from-least A F = let (d, h, e, p) = F .found in omega (arith, left-span A h e)
 
   module _ {first last : ℕ → ℕ} where
-    pub short-extent : Short M column first last → Extent M column first last
-    short-extent F = record {
-      from-left = λ A. from-least A (F .begins (B .vertex-below (A .below)));
-      to-right = λ A. let (d, h, e, p) = F .ends (B .vertex-below (A .below)) .found in omega (arith, right-span A h e);
-    }
-
     pub long-extent : Long M column first last → Extent M column first last
     long-extent F = record {
       from-left = λ A. from-least A (F .begins (B .vertex-below (A .below)));
       to-right = λ A. omega (arith, F .ends A);
     }
-
-    pub short-reaches : Short M column first last → Reaches M column first last
-    short-reaches F d h = let v = B .vertex-below h in (F .begins v .least d h refl, F .ends v .greatest d h refl)
 
     pub long-reaches : Long M column first last → Reaches M column first last
     long-reaches F d h = (

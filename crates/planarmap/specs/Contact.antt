@@ -70,12 +70,7 @@ pub record RightSide (M : Map) (column : ℕ → ℕ) (k : ℕ) : Type 0 where
   pub one-face : (b : Bool) (d : ℕ) → Rightmost M column (M .vertex k) b d → rightFace M d ≡ cornerFace M k
   pub greatest : (d : ℕ) → d < M .darts → M .vertex d ≡ M .vertex k → column (rightFace M d) ≤ column (cornerFace M k)
 
--- each vertex from the least to the greatest column of its edges
-pub record Short (M : Map) (column first last : ℕ → ℕ) : Type 0 where
-  pub begins : {v : ℕ} → v < M .vertices → Least M column v (first v)
-  pub ends : {v : ℕ} → v < M .vertices → Greatest M column v (last v)
-
--- each vertex but 0 and 1 on to the column before the face to its right
+-- each vertex from the least column of its edges: vertices 0 and 1 to the greatest, every other on to the column before the face to its right
 pub record Long (M : Map) (column first last : ℕ → ℕ) : Type 0 where
   pub begins : {v : ℕ} → v < M .vertices → Least M column v (first v)
   pub ends : {k : ℕ} → Right M k → suc (last (M .vertex k)) ≡ column (cornerFace M k)
