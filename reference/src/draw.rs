@@ -4,7 +4,8 @@ use crate::levels::levels;
 use crate::sheet::{Answer, Sheet, MAX_EDGES, MAX_VERTICES};
 use crate::sound::{survey_sound, Survey};
 
-/// "A bar lies in its row, from the least to the greatest column of its wires."
+/// "A bar lies in its row, from the least to the greatest column of its wires." Since C-12 "the plate
+/// trade now draws a bar up to its right neighbour"; this is "every bar but 0 and 1".
 #[derive(Clone, Copy, Debug, Default, PartialEq, Eq)]
 pub struct VertexSegment {
     pub row: u16,
@@ -72,7 +73,25 @@ fn drawing_of(sheet: &Sheet, survey: &Survey) -> Drawing {
             bar.last = bar.last.max(column);
         }
     }
+    lengthen_bars(sheet, survey, &columns, &mut drawing);
     drawing
+}
+
+/// "For every bar but 0 and 1, the last column becomes the column of the face to the right of its
+/// rightmost wires, less 1. Bars 0 and 1 are drawn as before." The face is that to the right of the
+/// rightmost downward wire, which every bar but 0 has; the rightmost upward wire has the same.
+fn lengthen_bars(sheet: &Sheet, survey: &Survey, columns: &[u16; 256], drawing: &mut Drawing) {
+    let mut rightmost: [Option<usize>; MAX_VERTICES] = [None; MAX_VERTICES];
+    for k in 0..sheet.edges {
+        let found = &mut rightmost[usize::from(sheet.heads[k])];
+        if found.is_none_or(|other| drawing.edges[other].column < drawing.edges[k].column) {
+            *found = Some(k);
+        }
+    }
+    for v in 2..sheet.vertices {
+        let k = rightmost[v].expect("bar 0 is the only bar with no incoming wire");
+        drawing.vertices[v].last = columns[usize::from(survey.faces[2 * k + 1])] - 1;
+    }
 }
 
 /// "Each wire but wire 0 leads from its left face to its right face; wire 0 leads from its right

@@ -55,6 +55,16 @@ fn p4_four_bars() {
     assert_eq!(plate_words(P4), P4_PRINTED);
 }
 
+/// "On plate P4 with `in=1`, bar 4 then goes from column 0 to 1 where it used to be the one point 0."
+#[test]
+fn p4_with_a_longer_bar() {
+    let expected = "rows=5 columns=4 bar=0,0,3 bar=4,0,3 bar=2,0,1 bar=3,1,2 bar=1,0,1 \
+        wire=3,0,4 wire=0,0,1 wire=0,2,4 wire=2,0,3 wire=1,3,4 wire=1,2,3 wire=0,1,2";
+    assert_eq!(plate_words(&format!("{P4} in=1")), expected);
+    // Without the bar it is P4 again, whose own bars have no room at their right.
+    assert_eq!(plate_words(&format!("{P4} in=1 off=4")), P4_PRINTED);
+}
+
 #[test]
 fn p5_the_example() {
     assert_eq!(plate_words(P5), P5_PRINTED);
@@ -101,7 +111,7 @@ fn counts_of_bars() {
 #[test]
 fn examples_folder() {
     let examples = examples();
-    assert_eq!(examples.len(), 14);
+    assert_eq!(examples.len(), 15);
     for (path, input, expected) in examples {
         assert_eq!(plate(&input), expected, "{}", path.display());
     }

@@ -17,7 +17,8 @@ pub fn check(sheet: &Sheet, drawing: &Drawing) -> Result<(), String> {
     check_sizes(sheet, drawing)?;
     check_ends(sheet, drawing)?;
     check_contact(sheet, drawing)?;
-    (0..sheet.vertices).try_for_each(|v| check_order(sheet, drawing, v))
+    (0..sheet.vertices).try_for_each(|v| check_order(sheet, drawing, v))?;
+    (0..sheet.vertices).try_for_each(|v| check_length(sheet, drawing, v))
 }
 
 fn hold(claim: bool, fault: impl Fn() -> String) -> Result<(), String> {
@@ -60,7 +61,7 @@ fn check_ends(sheet: &Sheet, drawing: &Drawing) -> Result<(), String> {
     Ok(())
 }
 
-/// Every point of every bar and wire, in doubled coordinates.
+/// Every point of every bar, to its last column, and of every wire, in doubled coordinates.
 fn points(sheet: &Sheet, drawing: &Drawing) -> Vec<((u16, u16), Piece)> {
     let mut points = Vec::new();
     for v in 0..sheet.vertices {
@@ -128,4 +129,21 @@ fn check_order(sheet: &Sheet, drawing: &Drawing, v: usize) -> Result<(), String>
         hold(sheet.nexts[end] as usize == next, || format!("order at bar {v}: {clockwise:?}"))?;
     }
     Ok(())
+}
+
+/// "the plate trade now draws a bar up to its right neighbour": one column further a bar but 0 and 1
+/// would be on a wire. Without contact there is one such end, so this and `check_contact` give the
+/// last column with no word of faces. "Bars 0 and 1 are drawn as before": they end with their wires.
+fn check_length(sheet: &Sheet, drawing: &Drawing, v: usize) -> Result<(), String> {
+    let bar = drawing.vertices[v];
+    let mut wires = drawing.edges[..sheet.edges].iter().enumerate();
+    let own = |k: usize| [sheet.tails[k], sheet.heads[k]].contains(&(v as u16));
+    let ends = if v < 2 {
+        wires.filter(|(k, _)| own(*k)).map(|(_, wire)| wire.column).max() == Some(bar.last)
+    } else {
+        wires.any(|(_, wire)| {
+            wire.column == bar.last + 1 && (wire.low..=wire.high).contains(&bar.row)
+        })
+    };
+    hold(ends, || format!("length of bar {v}: {bar:?}"))
 }

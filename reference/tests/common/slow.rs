@@ -132,10 +132,25 @@ pub fn face_steps(sheet: &Sheet) -> Vec<(usize, usize)> {
     (0..sheet.edges).map(step).collect()
 }
 
+/// The column of each face, by its name.
+pub fn face_columns(sheet: &Sheet) -> BTreeMap<usize, usize> {
+    longest(face_of(sheet, 1), &face_steps(sheet))
+}
+
+/// The face to the right of a bar but 0 and 1, by the ring: at one corner an upward wire is followed
+/// clockwise by a downward one, and the walk that passes it leaves by the downward one.
+pub fn face_to_the_right(sheet: &Sheet, v: usize) -> usize {
+    let next = |end: usize| sheet.nexts[end] as usize;
+    let passes = |&end: &usize| bar_of(sheet, end) == v && end % 2 == 0 && next(end) % 2 == 1;
+    let corners: Vec<usize> = (0..2 * sheet.edges).filter(passes).collect();
+    let [upward] = corners[..] else { panic!("corners at the right of bar {v}: {corners:?}") };
+    face_of(sheet, next(upward))
+}
+
 /// The drawing of a sound sheet.
 pub fn drawing(sheet: &Sheet) -> Drawing {
     let rows = longest(0, &wire_steps(sheet));
-    let columns = longest(face_of(sheet, 1), &face_steps(sheet));
+    let columns = face_columns(sheet);
     let column_of = |k: usize| columns[&face_of(sheet, 2 * k)] as u16;
     let mut drawing = Drawing::zeros();
     drawing.rows = rows[&1] as u16 + 1;
@@ -146,7 +161,10 @@ pub fn drawing(sheet: &Sheet) -> Drawing {
         drawing.vertices[v] = VertexSegment {
             row: rows[&v] as u16,
             first: *own.iter().min().expect("a bar has wires"),
-            last: *own.iter().max().expect("a bar has wires"),
+            last: match v {
+                0 | 1 => *own.iter().max().expect("a bar has wires"),
+                _ => columns[&face_to_the_right(sheet, v)] as u16 - 1,
+            },
         };
     }
     for k in 0..sheet.edges {
