@@ -21,10 +21,10 @@ static const char p4[] = "bars=4\nwires=6\nwire=0,1\nwire=0,2\nwire=2,1\nwire=0,
 static const char p4_drawing[] = "rows=4\ncolumns=4\nbar=0,0,3\nbar=3,0,3\nbar=1,0,1\nbar=2,1,2\n"
                                  "wire=3,0,3\nwire=0,0,1\nwire=0,1,3\nwire=2,0,2\nwire=1,2,3\nwire=1,1,2\n";
 
-/* P4 after `in=1` as a written sheet, and its drawing: by hand. */
+/* P4 after `in=1` as a written sheet, and its drawing: by hand. Bar 4 goes up to the column before wire 3. */
 static const char p4_in[] = "bars=5\nwires=7\nwire=0,1\nwire=0,4\nwire=2,1\nwire=0,3\nwire=3,1\nwire=2,3\nwire=4,2\n"
                             "around=0,1,3\naround=0,4,2\naround=2,5,6\naround=3,5,4\naround=1,6\n";
-static const char p4_in_drawing[] = "rows=5\ncolumns=4\nbar=0,0,3\nbar=4,0,3\nbar=2,0,1\nbar=3,1,2\nbar=1,0,0\n"
+static const char p4_in_drawing[] = "rows=5\ncolumns=4\nbar=0,0,3\nbar=4,0,3\nbar=2,0,1\nbar=3,1,2\nbar=1,0,1\n"
                                     "wire=3,0,4\nwire=0,0,1\nwire=0,2,4\nwire=2,0,3\nwire=1,3,4\nwire=1,2,3\nwire=0,1,2\n";
 
 /* Plate P5: the input and the output of the specification. */
@@ -149,6 +149,10 @@ static void check_replay(void) {
         while (same < 14 && answers[same] == (same < put ? expected[same] : 99)) same++;
         check(same == 14, "answers are put two by two, and the rest is untouched");
     }
+
+    const size_t p4_in_calls[] = {WALNUT_LOAD, 0, strlen(p4), 0, 0, WALNUT_IN, 1, 0, 0, 0};
+    d = walnut_replay(p4_in_calls, 10, bytes(text), length, answers, 0);
+    check(d.bars[4].row == 1 && d.bars[4].first == 0 && d.bars[4].last == 1, "bar 4 of P4 after in=1 goes up to its right neighbour");
 }
 
 static void check_plate(void) {

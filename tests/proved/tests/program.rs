@@ -59,7 +59,7 @@ fn examples() -> Vec<(PathBuf, Vec<u8>, Vec<u8>)> {
 #[test]
 fn examples_give_their_outputs() {
     let examples = examples();
-    assert_eq!(examples.len(), 14);
+    assert_eq!(examples.len(), 15);
     for (path, input, expected) in examples {
         let shown = |bytes: &[u8]| String::from_utf8_lossy(bytes).into_owned();
         assert_eq!(shown(&run(&input)), shown(&expected), "{}", path.display());
