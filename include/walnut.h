@@ -64,7 +64,8 @@ uint16_t walnut_edit(uint16_t kind, size_t a, size_t p, size_t b, size_t q, size
 uint16_t walnut_read_edit(const uint8_t *text, size_t length, uint16_t numbers[4], size_t *taken);
 
 /* A drawing: for each bar its row and its first and last column, for each wire its column and the rows of its tail and its
- * head. Entries past those of the sheet are 0. */
+ * head. A bar begins with its wires; bars 0 and 1 end with them, every other bar one column before the face to its right.
+ * Entries past those of the sheet are 0. */
 typedef struct {
     uint16_t row, first, last;
 } walnut_drawn_bar;

@@ -568,15 +568,18 @@ fn columns(s: &Sheet, faces: &Faces) -> [u16; 256] {
 
 fn drawing(s: &Sheet, survey: &Survey) -> Writer {
     let by_face = columns(s, &survey.faces);
-    let (mut first, mut last, mut columns) = ([u16::MAX; MAX_VERTICES], [0; MAX_VERTICES], [0; MAX_EDGES]);
+    // The column after the last of each vertex: that of the face to its right, which lies right of its upward edges.
+    let (mut first, mut after, mut columns) = ([u16::MAX; MAX_VERTICES], [0; MAX_VERTICES], [0; MAX_EDGES]);
     for k in 0..s.edges {
-        let column = by_face[usize::from(survey.faces.of[2 * k])];
+        let [column, right] = [2 * k, 2 * k + 1].map(|walk| by_face[usize::from(survey.faces.of[walk])]);
+        let (tail, head) = (usize::from(s.tails[k]), usize::from(s.heads[k]));
         columns[k] = column;
-        for v in [usize::from(s.tails[k]), usize::from(s.heads[k])] {
-            first[v] = first[v].min(column);
-            last[v] = last[v].max(column);
-        }
+        first[tail] = first[tail].min(column);
+        first[head] = first[head].min(column);
+        after[tail] = after[tail].max(right);
     }
+    // Vertices 0 and 1 end with edge 0.
+    (after[0], after[1]) = (columns[0] + 1, columns[0] + 1);
     let rows = &survey.rows;
     let mut text = Writer::new();
     text.put(b"rows=");
@@ -587,7 +590,7 @@ fn drawing(s: &Sheet, survey: &Survey) -> Writer {
         text.put(b"bar=");
         text.number(rows[v], b',');
         text.number(first[v], b',');
-        text.number(last[v], b'\n');
+        text.number(after[v] - 1, b'\n');
     }
     for k in 0..s.edges {
         text.put(b"wire=");
