@@ -4,8 +4,7 @@ ghost use Prim.Native.Nat.{_≤_, _<_, min, max};
 ghost use lib.ListN.{getD};
 ghost use Rattle.clauses.specs.Contracts.{Ends};
 ghost use Rattle.sheet.specs.Sound.{Sound};
-ghost use Rattle.sheet.specs.Check.{rowLevels, faceTable, faceCount};
-ghost use Rattle.drawing.specs.Draw.{noVertexSegment, noEdgeSegment, drawingOf, zeroDrawing, drawCall};
+ghost use Rattle.drawing.specs.Draw.{noVertexSegment, noEdgeSegment, zeroDrawing, drawCall};
 ghost use Rattle.draw.specs.Contracts.{table, sides, faceColumns, columnBeside, Rising, endFrom, edgeFrom, unreachedFrom, vertexFrom, widenedBy, drawingFrom};
 use answers::Answer;
 use answers::is_accepted;
@@ -186,19 +185,6 @@ fn compose(s: Sheet, rows: &[u16; 256], columns: &[u16; 256], ends: &[u16; 256])
     }
 }
 
-// The drawing of a sound sheet, from the rows of its vertices and the numbers of its faces.
-fn lay_out(s: Sheet, rows: &[u16; 256], faces: &[u16; 512], count: usize) -> Drawing
-    requires { ⌜ Sound s × (now rows ≡ rowLevels s .level) × (now faces ≡ faceTable s .orbit) × (count ≡ faceCount s) ⌝ }
-    ensures { λ r. ⌜ r ≡ drawingOf s ⌝ }
-{
-    let left = side_faces(s.edges, 0, faces);
-    let right = side_faces(s.edges, 1, faces);
-    let level = face_columns(s.edges, count, left, right);
-    let columns = columns_beside(s.edges, &level, &left);
-    let ends = right_ends(s.edges, &level, &right, columns[0]);
-    compose(s, rows, &columns, &ends)
-}
-
 // The record of zeros.
 fn zeros() -> Drawing
     ensures { λ r. ⌜ r ≡ zeroDrawing ⌝ }
@@ -233,7 +219,12 @@ pub fn draw(s: Sheet) -> Drawn
     }
     let rows = found.rows;
     let faces = found.faces;
-    let drawing = lay_out(s, &rows, &faces, found.count);
+    let left = side_faces(s.edges, 0, &faces);
+    let right = side_faces(s.edges, 1, &faces);
+    let level = face_columns(s.edges, found.count, left, right);
+    let columns = columns_beside(s.edges, &level, &left);
+    let ends = right_ends(s.edges, &level, &right, columns[0]);
+    let drawing = compose(s, &rows, &columns, &ends);
     Drawn {
         answer: Answer::Accepted,
         drawing,

@@ -17,7 +17,6 @@ use Rattle.planarmap.specs.Rotation.{Before}
 use Rattle.planarmap.specs.Rotation as plane-order
 use Rattle.planarmap.specs.Rotation.Before.{rising, turning, falling}
 use Rattle.planarmap.specs.Rotation.Follows.{directly, round}
-use Rattle.planarmap.proofs.Columns.{column-laws}
 use Rattle.planarmap.proofs.Rotation.{clockwise}
 use Rattle.sheet.specs.declared.Sheet.{Sheet}
 use Rattle.sheet.specs.Darts.{darts, vertex, next}
@@ -26,11 +25,10 @@ use Rattle.sheet.specs.Check.{column}
 use Rattle.soundness.specs.Maps.{mapOf}
 use Rattle.soundness.proofs.Law.{rotation-of}
 use Rattle.soundness.proofs.Plane.{plane-of}
-use Rattle.soundness.proofs.Columns.{columns-of}
 use Rattle.soundness.proofs.Darts.{edge-below}
 use Rattle.drawing.specs.Draw.{drawingOf}
 use Rattle.drawing.specs.Clear.{Cycle, dartColumn, Clockwise}
-use Rattle.drawing.proofs.Segments.{edge-stands, column-at, some-dart}
+use Rattle.drawing.proofs.Segments.{edge-stands, column-at, some-dart, laws}
 use Rattle.drawing.proofs.Rings.{Step, Parts, parts, listFrom, list-ordered, list-cycle, list-has, list-all}
 use Rattle.drawing.proofs.Rings.Step.{rising as step-rising, turning as step-turning, falling as step-falling}
 
@@ -55,7 +53,7 @@ module _ {M : Map} {column : ℕ → ℕ} where
 
 module _ {s : Sheet} (S : Sound s) where
   order : plane-order.Clockwise (mapOf s) (column s)
-  order = clockwise (plane-of S) (column-laws (plane-of S) (columns-of S))
+  order = clockwise (plane-of S) (laws S)
 
   -- as the drawing shows it
   value-at : {d : ℕ} → d < darts s → dartColumn (drawingOf s) d ≡ plane.edgeColumn (mapOf s) (column s) d

@@ -1,4 +1,5 @@
--- The drawing as 'Rows, columns and the drawing' lays it down, with no definition that computes; and the law to the one that does.
+-- The drawing as 'Rows, columns and the drawing' lays it down, and C-12 the last column of a bar, with no definition that computes; and the law to the
+-- one that does.
 use Prim.Native.Nat.{ℕ, _+_, _≤_, _<_}
 use mathlib.Core.Path.{_≡_}
 use mathlib.Core.Logic.{_≢_, _⊎_, _↔_}
@@ -29,14 +30,14 @@ pub record GreatestColumn (s : Sheet) (D : Drawing) (v c : ℕ) : Type 0 where
   pub stands : edgeOf D edge .column ≡ c
   pub greatest : (k : ℕ) → EdgeAt s v k → edgeOf D k .column ≤ c
 
--- Upward are the wires whose tail the bar is, downward those whose head it is: of those of bar v, upward where `end` is `tail` and downward where it is
--- `head`, wire k is the rightmost.
+-- Upward are the wires whose tail the bar is, downward those whose head it is. Wire k is the rightmost of the upward wires of bar v, where `end` is
+-- `tail`, or of its downward wires, where `end` is `head`.
 pub record Rightmost (s : Sheet) (D : Drawing) (end : Sheet → ℕ → ℕ) (v k : ℕ) : Type 0 where
   pub inside : k < s .edges
   pub at-bar : end s k ≡ v
   pub greatest : (j : ℕ) → j < s .edges → end s j ≡ v → edgeOf D j .column ≤ edgeOf D k .column
 
--- c is the face to the right of the rightmost wires of bar v, of the upward one and of the downward one
+-- c is the face to the right of the rightmost wires of bar v: the right face of its rightmost upward wire and of its rightmost downward wire
 pub record FaceToRight (s : Sheet) (D : Drawing) (face : ℕ → ℕ) (v c : ℕ) : Type 0 where
   pub upward : ℕ
   pub upward-rightmost : Rightmost s D tail v upward
@@ -70,7 +71,7 @@ pub record Laid (s : Sheet) (D : Drawing) : Type 0 where
   pub unused-vertices : (v : ℕ) → s .vertices ≤ v → vertexOf D v ≡ noVertexSegment
   pub unused-edges : (k : ℕ) → s .edges ≤ k → edgeOf D k ≡ noEdgeSegment
 
--- The right face of a bar's rightmost upward wire and that of its rightmost downward wire are one face.
+-- Those two are one face, however the faces are numbered.
 abbrev pub One-Face-Law : Type 0
 One-Face-Law = (s : Sheet) → Sound s → (face : ℕ → ℕ) (f : ℕ) → Faces s face f → (v k l : ℕ)
     → Rightmost s (drawingOf s) tail v k → Rightmost s (drawingOf s) head v l → rightFace face k ≡ rightFace face l

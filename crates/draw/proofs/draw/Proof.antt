@@ -1,11 +1,13 @@
 -- `draw::draw` meets its contract: a sheet that is not sound is refused, and the drawing of a sound one composed. Assumes nothing.
 use mathlib.Core.Path.{_≡_}
 use mathlib.Core.Bool.{true}
+use native.Mathlib.Omega.{arith}
 use borrow.Author.Tests.{not-true, not-false}
 use Rattle.sheet.specs.Darts.{Sized}
 use Rattle.sheet.specs.Sound.{Sound}
-use Rattle.sheet.specs.Check.{sound}
+use Rattle.sheet.specs.Check.{sound, rowLevels, faceTable, faceCount}
 use Rattle.soundness.proofs.Law.{sound-law}
+use Rattle.draw.proofs.Laying.{left-in, right-rises, all-small, all-laid}
 use Rattle.draw.proofs.Outcome.{not-sound, is-sound, answered, laid-from}
 use borrow.Author.Needs.{needs}
 use Rattle.draw.proofs.draw.Statement.{statement}
@@ -33,11 +35,53 @@ zeros-requires c κs = search needs
 returns : tie.Need-returns
 returns c = not-sound _ (answered _ _ (c .before .before .before .examine .ensures) _ _ (c .before .before .is-accepted .ensures) (not-true _ (c .before .if1 .taken))) _ (c .zeros .ensures)
 
-lay-out-requires : tie.Need-lay-out-requires
-lay-out-requires c κs = let accepted = c .before .before .before .before in laid-from _ _ (accepted .before .before .examine .ensures) (has-sound accepted) (is-so accepted)
+-- what was found of the sound sheet
+found : (c : tie.Else1) → let sheet = c .before .before .before .args .s in let findings = c .before .before .examine .result in
+    Sound sheet × (findings .rows ≡ rowLevels sheet .level) × (findings .faces ≡ faceTable sheet .orbit) × (findings .count ≡ faceCount sheet)
+found c = laid-from _ _ (c .before .before .examine .ensures) (has-sound c) (is-so c)
+
+side-faces-requires : tie.Need-side-faces-requires
+side-faces-requires c κs = (found (c .before .before .before) .0 .limits .edges-most, omega arith)
+
+side-faces-requires-2 : tie.Need-side-faces-requires-2
+side-faces-requires-2 c κs = (found (c .before .before .before .before .before) .0 .limits .edges-most, omega arith)
+
+face-columns-requires : tie.Need-face-columns-requires
+face-columns-requires c κs = search needs
+
+columns-beside-requires : tie.Need-columns-beside-requires
+columns-beside-requires c κs =
+    let left = c .before .before .before .before .before in
+    let accepted = left .before .before .before .before in
+    left-in (found accepted .0) _ (found accepted .2) _ (left .side-faces .ensures)
+
+array-read-right-ends : tie.Need-array-read-right-ends
+array-read-right-ends c = search needs
+
+right-ends-requires : tie.Need-right-ends-requires
+right-ends-requires c κs =
+    let levels = c .before .before .before .before .before in
+    let left = levels .before .before .before in
+    let accepted = left .before .before .before .before in
+    right-rises (found accepted .0) _ (found accepted .2) _ (left .side-faces .ensures) _ (levels .before .side-faces2 .ensures) _ (found accepted .3) _ (levels .face-columns .ensures)
+
+compose-requires : tie.Need-compose-requires
+compose-requires c κs =
+    let columns = c .before .before .before .before .before .before in
+    let levels = columns .before .before .before in
+    let left = levels .before .before .before in
+    let accepted = left .before .before .before .before in
+    all-small (found accepted .0) _ (found accepted .2) _ (left .side-faces .ensures) _ (levels .before .side-faces2 .ensures) _ (found accepted .3) _ (levels .face-columns .ensures) _ (columns .columns-beside .ensures) _ (found accepted .1)
 
 returns-2 : tie.Need-returns-2
-returns-2 c = is-sound _ (is-so (c .before .before .before .before .before)) _ (c .lay-out .ensures)
+returns-2 c =
+    let ends = c .before .before .before .before in
+    let columns = ends .before .before .before in
+    let levels = columns .before .before .before in
+    let left = levels .before .before .before in
+    let accepted = left .before .before .before .before in
+    is-sound _ (is-so accepted) _
+    (all-laid (found accepted .0) _ (found accepted .2) _ (left .side-faces .ensures) _ (levels .before .side-faces2 .ensures) _ (found accepted .3) _ (levels .face-columns .ensures) _ (columns .columns-beside .ensures) _ (found accepted .1) _ (ends .right-ends .ensures) _ (c .compose .ensures))
 
 pub draw-spec : {M : Type 1} → statement M
 draw-spec =
@@ -47,5 +91,11 @@ draw-spec =
     is-accepted-requires
     zeros-requires
     returns
-    lay-out-requires
+    side-faces-requires
+    side-faces-requires-2
+    face-columns-requires
+    columns-beside-requires
+    array-read-right-ends
+    right-ends-requires
+    compose-requires
     returns-2)

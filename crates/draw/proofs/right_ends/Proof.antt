@@ -1,8 +1,9 @@
 -- `draw::right_ends` meets its contract. The first k entries are filled. Assumes nothing.
 use Prim.Native.Nat.{_-_, _≤_, _<_}
-use mathlib.Core.Path.{_≡_, refl}
+use mathlib.Core.Path.{_≡_, refl, ap}
 use mathlib.Core.Logic.{_≢_}
 use native.Mathlib.Omega.{arith}
+use lib.ListN.{getD}
 use borrow.Author.Tests.{ne-eqb}
 use Rattle.draw.specs.Contracts.{table, columnBeside, endFrom}
 use Rattle.draw.proofs.Filling.{table-none, table-more, table-over}
@@ -45,7 +46,7 @@ sub-ends c =
     let at-loop = c .before .before .before .before in
     let k = at-loop .loop .k in
     let rises = at-loop .before .pre .2 k (c .before .before .before .loop-test .taken) (λ e. omega (arith, at-loop .loop .inv .0)) in
-    rw (c .before .wide .ensures .0) rises
+    omega (arith, rises, ap (λ face. getD (at-loop .before .args .level .now) face 0) (c .before .wide .ensures .0))
 
 mul-ends-2 : tie.Need-mul-ends-2 Inv-loop μ-loop
 mul-ends-2 c = search needs
