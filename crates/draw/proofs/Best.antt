@@ -1,14 +1,11 @@
--- The best of the values of the numbers below n that pass, found one by one, is that of their list. Assumes nothing.
+-- The best of the values of the numbers below n that pass, found one by one. Assumes nothing.
 use Prim.Native.Nat.{ℕ, zero, suc, _+_, _≤_, _<_, min, max}
 use mathlib.Core.Path.{_≡_, refl, sym, ap, _∙_}
 use mathlib.Core.Bool.{Bool, true, false, cond}
-use mathlib.Core.List.{List, map}
 use native.Mathlib.Decide.{ℕ-discrete}
 use native.Mathlib.Numerals.{add-one}
 use native.Mathlib.Omega.{arith}
-use Rattle.counting.specs.Below.{listBelow}
 use Rattle.counting.proofs.Iterate.{by-bool}
-use Rattle.drawing.proofs.Extremes.{Extreme, best-is, best-bounds}
 use Rattle.draw.specs.Contracts.{bestBelow}
 
 -- `better` is the one of two that stands to both as R says
@@ -68,9 +65,6 @@ module _ {R : ℕ → ℕ → Type 0} {better : ℕ → ℕ → ℕ} (B : Better
       go true t ih = B .both x found (f n) ih (h n (omega arith) t)
       go false t ih = ih
 
-  -- where one passes, and z is no better than any that passes
-  pub found-best : {best : List ℕ → ℕ} → Extreme R best → (n k : ℕ) → k < n → p k ≡ true → ((j : ℕ) → j < n → p j ≡ true → R (f j) z)
-      → bestBelow better z p f n ≡ best (map f (listBelow p n))
-  found-best {best} E n k h t worst =
-      let (j, l, u, e) = best-is E p f n k h t in
-      B .same (bestBelow better z p f n) (best (map f (listBelow p n))) (rw e (found-bounds n j l u)) (found-below n (best (map f (listBelow p n))) (rw e (worst j l u)) (best-bounds E p f n k h t))
+  -- the best is x, where x is the value of one that passes and stands to all their values, and to z, as R says
+  pub found-best : (n x k : ℕ) → k < n → p k ≡ true → f k ≡ x → R x z → ((j : ℕ) → j < n → p j ≡ true → R x (f j)) → bestBelow better z p f n ≡ x
+  found-best n x k h t e worst all = B .same (bestBelow better z p f n) x (rw e at (found-bounds n k h t)) (found-below n x worst all)

@@ -1,106 +1,104 @@
--- The columns of the faces beside each edge of a sound sheet. Assumes nothing.
+-- The columns beside the edges of a sound sheet. Assumes nothing.
 use Prim.Native.Nat.{ℕ, _+_, _-_, _*_, _≤_, _<_}
 use mathlib.Core.Path.{_≡_, refl, ap, _∙_}
-use mathlib.Core.Logic.{_≢_}
-use mathlib.Core.Bool.{cond}
+use mathlib.Core.Logic.{_≢_, by-cases}
 use mathlib.Core.List.{List}
+use native.Mathlib.Decide.{ℕ-discrete}
 use native.Mathlib.Omega.{arith}
 use lib.Dec.{eqb}
-use lib.ListN.{getD, set}
+use lib.ListN.{getD}
 use borrow.Author.Tests.{ne-eqb}
-use Rattle.digraph.specs.Relaxed.{levelsOf}
+use Rattle.counting.proofs.Iterate.{by-bool}
 use Rattle.sheet.specs.declared.Sheet.{Sheet}
-use Rattle.clauses.specs.Darts.{tailDart}
+use Rattle.clauses.specs.Darts.{tailDart, headDart}
 use Rattle.clauses.specs.Contracts.{Ends}
 use Rattle.sheet.specs.Sound.{Sound}
 use Rattle.sheet.specs.Check.{faceTable, face, faceCount, faceFrom, faceTo, edgeTable, columnLevels, column}
 use Rattle.soundness.proofs.Plane.{plane-of}
 use Rattle.soundness.proofs.Columns.{column-law}
 use Rattle.drawing.specs.Draw.{edgeColumn, rightColumn}
-use Rattle.draw.specs.Contracts.{table, sideFace, sides, faceColumns, columnBeside, Rising, endFrom}
-use Rattle.draw.proofs.Filling.{table-at, table-agree, table-put}
+use Rattle.draw.specs.Contracts.{table, leadingFace, leadingFaces, columnBeside, AtLeast}
+use Rattle.draw.proofs.Filling.{table-at, table-agree}
 use Rattle.draw.proofs.Ends.{endColumn}
 
+-- ---- the faces between which each edge leads
+
+from-is : (s : Sheet) (k : ℕ) → leadingFace 0 (faceTable s .orbit) k ≡ faceFrom s k
+unfolding leadingFace faceFrom
+from-is s k = by-cases (ℕ-discrete k 0) (λ e. rw e refl) (λ n. let e : 2 * k + 0 ≡ 2 * k = omega arith in rw (ne-eqb k 0 n, e) refl)
+
+to-is : (s : Sheet) (k : ℕ) → leadingFace 1 (faceTable s .orbit) k ≡ faceTo s k
+unfolding leadingFace faceTo
+to-is s k = by-cases (ℕ-discrete k 0) (λ e. rw e refl) (λ n. rw (ne-eqb k 0 n) refl)
+
+pub from-table : (s : Sheet) → leadingFaces (s .edges) 0 (faceTable s .orbit) ≡ edgeTable (faceFrom s) s
+unfolding leadingFaces edgeTable table
+from-table s = table-agree _ 256 0 (faceFrom s) (s .edges) (λ k _. from-is s k)
+
+pub to-table : (s : Sheet) → leadingFaces (s .edges) 1 (faceTable s .orbit) ≡ edgeTable (faceTo s) s
+unfolding leadingFaces edgeTable table
+to-table s = table-agree _ 256 0 (faceTo s) (s .edges) (λ k _. to-is s k)
+
 module _ {s : Sheet} (S : Sound s) where
-  faces : List ℕ
-  faces = faceTable s .orbit
+  abbrev level : List ℕ
+  level = columnLevels s .level
 
-  left-of : (k : ℕ) → sideFace 0 faces k ≡ face s (tailDart k)
-  unfolding sideFace faces
-  left-of k = let e : 2 * k + 0 ≡ 2 * k = omega arith in ap (λ d. getD faces d 0) e
-
-  -- the faces between which each edge leads
-  from-root : sideFace 1 faces 0 ≡ faceFrom s 0
-  unfolding sideFace faces faceFrom
-  from-root = refl
-
-  to-root : sideFace 0 faces 0 ≡ faceTo s 0
-  unfolding sideFace faces faceTo
-  to-root = refl
-
-  from-other : (k : ℕ) → k ≢ 0 → sideFace 0 faces k ≡ faceFrom s k
-  unfolding faceFrom
-  from-other k n = rw (ne-eqb k 0 n) (left-of k)
-
-  to-other : (k : ℕ) → k ≢ 0 → sideFace 1 faces k ≡ faceTo s k
-  unfolding faceTo sideFace faces
-  to-other k n = rw (ne-eqb k 0 n) refl
-
-  some : 0 < s .edges
+  pub some : 0 < s .edges
   some = omega (arith, S .limits .edges-least)
 
-  -- the entry of one side's table at edge k
-  side-at : (side k : ℕ) → k < s .edges → getD (sides (s .edges) side faces) k 0 ≡ sideFace side faces k
-  unfolding sides
-  side-at side k h = table-at (sideFace side faces) 256 0 0 (s .edges) k h
+  edge-at : (g : ℕ → ℕ) (k : ℕ) → k < s .edges → getD (edgeTable g s) k 0 ≡ g k
+  unfolding edgeTable table
+  edge-at g k h = table-at g 256 0 0 (s .edges) k h
 
-  from-table : set (sides (s .edges) 0 faces) 0 (getD (sides (s .edges) 1 faces) 0 0) ≡ edgeTable (faceFrom s) s
-  unfolding sides edgeTable table
-  from-table = table-put (sideFace 0 faces) 256 0 (faceFrom s) (s .edges) 0 _ some (side-at 1 0 some ∙ from-root) (λ k _ n. from-other k n)
+  -- the column of edge 0 is that of the face to which it leads
+  pub last-is : getD level (getD (edgeTable (faceTo s) s) 0 0) 0 ≡ edgeColumn s 0
+  unfolding faceTo edgeColumn
+  last-is = ap (column s) (edge-at (faceTo s) 0 some)
 
-  to-table : set (sides (s .edges) 1 faces) 0 (getD (sides (s .edges) 0 faces) 0 0) ≡ edgeTable (faceTo s) s
-  unfolding sides edgeTable table
-  to-table = table-put (sideFace 1 faces) 256 0 (faceTo s) (s .edges) 0 _ some (side-at 0 0 some ∙ to-root) (λ k _ n. to-other k n)
+  -- and that of another edge is that of the face from which it leads
+  from-column : (k : ℕ) → k < s .edges → k ≢ 0 → getD level (getD (edgeTable (faceFrom s) s) k 0) 0 ≡ edgeColumn s k
+  unfolding faceFrom edgeColumn
+  from-column k h n = ap (column s) (edge-at (faceFrom s) k h ∙ rw (ne-eqb k 0 n) refl)
 
-  pub levels-are : faceColumns (faceCount s) (s .edges) (sides (s .edges) 0 (faceTable s .orbit)) (sides (s .edges) 1 (faceTable s .orbit)) ≡ columnLevels s .level
-  unfolding faceColumns columnLevels faces
-  levels-are =
-      ap (λ l. levelsOf (faceCount s) (s .edges) l (set (sides (s .edges) 1 faces) 0 (getD (sides (s .edges) 0 faces) 0 0)) .level) from-table
-      ∙ ap (λ l. levelsOf (faceCount s) (s .edges) (edgeTable (faceFrom s) s) l .level) to-table
+  to-column : (k : ℕ) → k < s .edges → k ≢ 0 → getD level (getD (edgeTable (faceTo s) s) k 0) 0 ≡ rightColumn s k
+  unfolding faceTo rightColumn
+  to-column k h n = ap (column s) (edge-at (faceTo s) k h ∙ rw (ne-eqb k 0 n) refl)
 
-  -- the columns of the faces on either side
-  left-column : (k : ℕ) → k < s .edges → columnBeside (columnLevels s .level) (sides (s .edges) 0 (faceTable s .orbit)) k ≡ edgeColumn s k
-  unfolding columnBeside edgeColumn faces
-  left-column k h = ap (column s) (side-at 0 k h ∙ left-of k)
+  pub columns-are : table (columnBeside level (edgeTable (faceFrom s) s) (edgeColumn s 0) 0) (s .edges) 256 0 ≡ table (edgeColumn s) (s .edges) 256 0
+  unfolding columnBeside
+  columns-are = table-agree _ 256 0 (edgeColumn s) (s .edges) (λ k h. by-cases (ℕ-discrete k 0) (λ e. rw e refl) (λ n. rw (ne-eqb k 0 n, from-column k h n) (omega arith)))
 
-  right-column : (k : ℕ) → k < s .edges → columnBeside (columnLevels s .level) (sides (s .edges) 1 (faceTable s .orbit)) k ≡ rightColumn s k
-  unfolding columnBeside rightColumn sideFace faces
-  right-column k h = ap (column s) (side-at 1 k h)
+  pub ends-are : table (columnBeside level (edgeTable (faceTo s) s) (edgeColumn s 0) 1) (s .edges) 256 0 ≡ table (endColumn s) (s .edges) 256 0
+  unfolding columnBeside endColumn
+  ends-are = table-agree _ 256 0 (endColumn s) (s .edges) (λ k h. by-cases (ℕ-discrete k 0) (λ e. rw e refl) (λ n. rw (ne-eqb k 0 n, to-column k h n) refl))
 
-  pub columns-are : table (columnBeside (columnLevels s .level) (sides (s .edges) 0 (faceTable s .orbit))) (s .edges) 256 0 ≡ table (edgeColumn s) (s .edges) 256 0
-  columns-are = table-agree _ 256 0 (edgeColumn s) (s .edges) left-column
-
-  pub rising : Rising (s .edges) (columnLevels s .level) (sides (s .edges) 1 (faceTable s .orbit))
+  -- a face to which another edge leads is right of the one from which it leads
+  pub to-rises : AtLeast 1 (s .edges) level (edgeTable (faceTo s) s)
   unfolding rightColumn
-  rising k h n = omega (arith, right-column k h, column-law S .rises k h n)
-
-  pub ends-are : table (endFrom (columnLevels s .level) (sides (s .edges) 1 (faceTable s .orbit)) (edgeColumn s 0)) (s .edges) 256 0 ≡ table (endColumn s) (s .edges) 256 0
-  unfolding endFrom endColumn
-  ends-are = table-agree _ 256 0 (endColumn s) (s .edges) (λ k h. ap (λ c. cond (eqb k 0) (edgeColumn s 0) (c - 1)) (right-column k h))
+  to-rises k h n = omega (arith, to-column k h n, column-law S .rises k h n)
 
   -- ---- how many faces there are
-
-  face-below : (side k : ℕ) → side < 2 → k < s .edges → sideFace side faces k < faceCount s
-  unfolding sideFace faces
-  face-below side k i h = column-law S .faces .inside (2 * k + side) (omega arith)
 
   few-faces : faceCount s ≤ 256
   few-faces = omega (arith, S .limits .edges-most, S .limits .vertices-least, plane-of S .euler)
 
-  pub side-in : (side : ℕ) → side < 2 → Ends 256 (s .edges) (sides (s .edges) side (faceTable s .orbit))
-  unfolding faces
-  side-in side i = record { few = S .limits .edges-most; inside = λ k h. omega (arith, side-at side k h, face-below side k i h, few-faces) }
+  leading-in : (g : ℕ → ℕ) → ((k : ℕ) → k < s .edges → g k < faceCount s) → Ends 256 (s .edges) (edgeTable g s)
+  leading-in g inside = record { few = S .limits .edges-most; inside = λ k h. omega (arith, edge-at g k h, inside k h, few-faces) }
+
+  left-below : (k : ℕ) → k < s .edges → face s (tailDart k) < faceCount s
+  left-below k h = column-law S .faces .inside (tailDart k) (omega arith)
+
+  right-below : (k : ℕ) → k < s .edges → face s (headDart k) < faceCount s
+  right-below k h = column-law S .faces .inside (headDart k) (omega arith)
+
+  pub from-in : Ends 256 (s .edges) (edgeTable (faceFrom s) s)
+  unfolding faceFrom
+  from-in = leading-in (faceFrom s) (λ k h. by-bool (eqb k 0) (λ t. rw t (right-below k h)) (λ t. rw t (left-below k h)))
+
+  pub to-in : Ends 256 (s .edges) (edgeTable (faceTo s) s)
+  unfolding faceTo
+  to-in = leading-in (faceTo s) (λ k h. by-bool (eqb k 0) (λ t. rw t (left-below k h)) (λ t. rw t (right-below k h)))
 
   pub column-small : (k : ℕ) → k < s .edges → edgeColumn s k < 256
   unfolding edgeColumn
-  column-small k h = omega (arith, column-law S .fewer (face s (tailDart k)) (column-law S .faces .inside (tailDart k) (omega arith)), few-faces)
+  column-small k h = omega (arith, column-law S .fewer (face s (tailDart k)) (left-below k h), few-faces)

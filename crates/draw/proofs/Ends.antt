@@ -1,22 +1,29 @@
--- The last column of a vertex of a sound sheet is the greatest to which its edges let it go. Assumes nothing.
-use Prim.Native.Nat.{ℕ, _-_, _≤_, _<_}
-use mathlib.Core.Path.{_≡_, refl, ap, sym, _∙_}
-use mathlib.Core.Logic.{_≢_, _⊎_, inl, inr, by-cases}
+-- The edges that leave a vertex of a sound sheet reach as far as all its edges; vertex 1, which none leaves, goes as far as vertex 0. Assumes nothing.
+use Prim.Native.Nat.{ℕ, _-_, _/_, _≤_, _<_}
+use mathlib.Core.Path.{_≡_, refl, sym, ap, _∙_}
+use mathlib.Core.Logic.{_≢_, by-cases}
 use mathlib.Core.Bool.{true, false, cond}
 use native.Mathlib.Decide.{ℕ-discrete, decLt}
 use native.Mathlib.Omega.{arith}
 use lib.Dec.{eqb}
 use borrow.Author.Tests.{ne-eqb, lt-ltb, le-ltb}
-use Rattle.clauses.specs.Darts.{tailDart, headDart}
+use Rattle.planarmap.proofs.Laws.{next-below}
+use Rattle.planarmap.proofs.Corners.{has-corners}
+use Rattle.planarmap.proofs.Spans.{long-extent}
+use Rattle.planarmap.proofs.Sides.{right-side, leftmost-out, source-first, sink-first}
+use Rattle.clauses.specs.Darts.{tailDart, headDart, isTail}
 use Rattle.clauses.proofs.Touching.{touches-tail, touches-head}
 use Rattle.sheet.specs.declared.Sheet.{Sheet}
-use Rattle.sheet.specs.Darts.{tail, head, touches}
+use Rattle.sheet.specs.Darts.{tail, darts, vertex, next, touches}
 use Rattle.sheet.specs.Sound.{Sound}
-use Rattle.sheet.specs.Check.{face}
+use Rattle.sheet.specs.Check.{face, column}
+use Rattle.soundness.proofs.Darts.{edge-below, dart-vertex}
+use Rattle.soundness.proofs.Plane.{plane-of}
 use Rattle.soundness.proofs.Columns.{column-law}
-use Rattle.drawing.specs.Draw.{edgeColumn, rightColumn, columnsAt, greatest, lastColumn}
+use Rattle.drawing.specs.Draw.{edgeColumn, rightColumn, columnsAt, greatest, firstColumn, lastColumn}
 use Rattle.drawing.proofs.Extremes.{greatest-extreme}
-use Rattle.drawing.proofs.Segments.{touches-says, edge-found, edge-bound}
+use Rattle.drawing.proofs.Segments.{dart-column, column-at, right-at, edge-found, edge-bound, laws, long-of}
+use Rattle.drawing.proofs.Sides.{end-at}
 
 -- how far right edge k lets its vertices go
 unfoldable pub endColumn : Sheet → ℕ → ℕ
@@ -31,6 +38,57 @@ unfolding endColumn
 end-root s = refl
 
 module _ {s : Sheet} (S : Sound s) where
+  two : 1 < s .vertices
+  two = S .limits .vertices-least
+
+  -- the edge of an outgoing dart leaves its vertex
+  leaving : {d : ℕ} → d < darts s → isTail d ≡ true → (d / 2 < s .edges) × (tail s (d / 2) ≡ vertex s d)
+  leaving {d} h o = (edge-below s h, end-at s true d o)
+
+  -- ---- to the left
+
+  pub first-bound : (v : ℕ) → v < s .vertices → (k : ℕ) → k < s .edges → tail s k ≡ v → firstColumn s v ≤ edgeColumn s k
+  first-bound v h k l e = omega (arith, long-of S .begins h .least (tailDart k) (omega arith) (dart-vertex s true k ∙ e), dart-column s true k)
+
+  pub first-found : (v : ℕ) → v < s .vertices → v ≢ 1 → (k : ℕ) × (k < s .edges) × (tail s k ≡ v) × (edgeColumn s k ≡ firstColumn s v)
+  first-found v h n1 = by-cases (ℕ-discrete v 0)
+      (λ e.
+      let (d, l, p, q) = long-of S .begins h .found in
+      let (i, t) = leaving l (plane-of S .bipolar .source l (p ∙ e)) in
+      (d / 2, i, t ∙ p, sym (column-at s d) ∙ sym q))
+      (λ n0.
+      let (l, A, p) = has-corners (plane-of S .bipolar) .left h n0 n1 in
+      let below = next-below (plane-of S .bipolar) (A .below) in
+      let at-v = plane-of S .bipolar .next-vertex (A .below) ∙ p in
+      let (i, t) = leaving below (A .second) in (
+        next s l / 2,
+        i,
+        t ∙ at-v,
+        omega (
+          arith,
+          column-at s (next s l),
+          leftmost-out (plane-of S) (laws S) A,
+          long-extent (plane-of S) (laws S) (long-of S) .from-left A,
+          ap (firstColumn s) p,
+          long-of S .begins h .least (next s l) below at-v,
+        ),
+      ))
+
+  -- both poles begin in the first column
+  pub first-poles : firstColumn s 0 ≡ firstColumn s 1
+  first-poles =
+      let B = plane-of S .bipolar in
+      let (d, l, p, q) = sink-first (plane-of S) (laws S) in
+      omega (
+        arith,
+        source-first (plane-of S) (laws S),
+        q,
+        long-of S .begins two .least d l p,
+        long-of S .begins {v = 0} (omega (arith, two)) .least (next s 0) (next-below B (B .root-below)) (B .next-vertex (B .root-below) ∙ B .root-tail),
+      )
+
+  -- ---- to the right
+
   -- edge 0 is right of all others
   edge-most : (k : ℕ) → k < s .edges → edgeColumn s k ≤ edgeColumn s 0
   unfolding edgeColumn
@@ -42,39 +100,49 @@ module _ {s : Sheet} (S : Sound s) where
       (λ e. omega (arith, ap (endColumn s) e, end-root s))
       (λ n. omega (arith, end-other s k n, column-law S .last (face s (headDart k)) (column-law S .faces .inside (headDart k) (omega arith))))
 
-  -- where edge 0 has an end, that is the last column, and the greatest of the edges' columns
-  root-is : (columnOf : ℕ → ℕ) → columnOf 0 ≡ edgeColumn s 0 → ((k : ℕ) → k < s .edges → columnOf k ≤ edgeColumn s 0)
-      → (v : ℕ) → v < s .vertices → touches s 0 v ≡ true → greatest (columnsAt columnOf s v) ≡ edgeColumn s 0
-  root-is columnOf root most v h t =
-      let (k, l, _, e) = edge-found S greatest-extreme columnOf v h in
-      omega (arith, root, most k l, edge-bound S greatest-extreme columnOf v h 0 (omega (arith, S .limits .edges-least)) t)
-
-  root-touches : (v : ℕ) → v < 2 → touches s 0 v ≡ true
-  root-touches v h = by-cases (ℕ-discrete v 0)
-      (λ e. touches-tail (s .tails) (s .heads) 0 v (S .root-tail ∙ sym e))
-      (λ n. let e : v ≡ 1 = omega arith in touches-head (s .tails) (s .heads) 0 v (S .root-head ∙ sym e))
-
-  -- elsewhere it has none
-  not-root : (v k : ℕ) → 2 ≤ v → touches s k v ≡ true → k ≢ 0
-  not-root v k h t e = elim (touches-says s k v .0 t) [
-    | inl p ↦ omega (arith, p, ap (tail s) e, S .root-tail)
-    | inr p ↦ omega (arith, p, ap (head s) e, S .root-head)
-  ]
-
-  pub end-is : (v : ℕ) → v < s .vertices → greatest (columnsAt (endColumn s) s v) ≡ lastColumn s v
+  -- so both poles end with it
+  pole-last : (v : ℕ) → v < 2 → lastColumn s v ≡ edgeColumn s 0
   unfolding lastColumn
-  end-is v h = by-cases (decLt v 2)
-      (λ l. rw (lt-ltb v 2 l) (root-is (endColumn s) (end-root s) end-most v h (root-touches v l) ∙ sym (root-is (edgeColumn s) refl edge-most v h (root-touches v l))))
-      (λ l.
-      let (j, i, t, p) = edge-found S greatest-extreme (endColumn s) v h in
-      let (k, m, u, q) = edge-found S greatest-extreme (rightColumn s) v h in
-      rw (le-ltb v 2 (omega arith))
-      (omega (
-        arith,
-        p,
-        q,
-        end-other s j (not-root v j (omega arith) t),
-        end-other s k (not-root v k (omega arith) u),
-        edge-bound S greatest-extreme (endColumn s) v h k m u,
-        edge-bound S greatest-extreme (rightColumn s) v h j i t,
-      )))
+  pole-last v l =
+      let h : v < s .vertices = omega (arith, two) in
+      let (k, i, _, e) = edge-found S greatest-extreme (edgeColumn s) v h in
+      rw (lt-ltb v 2 l) (omega (arith, e, edge-most k i, edge-bound S greatest-extreme (edgeColumn s) v h 0 (omega (arith, S .limits .edges-least)) (touched (ℕ-discrete v 0))))
+    where
+      touched : Dec (v ≡ 0) → touches s 0 v ≡ true
+      touched (yes e) = touches-tail (s .tails) (s .heads) 0 v (S .root-tail ∙ sym e)
+      touched (no n) = let e : v ≡ 1 = omega arith in touches-head (s .tails) (s .heads) 0 v (S .root-head ∙ sym e)
+
+  pub last-poles : lastColumn s 0 ≡ lastColumn s 1
+  last-poles = pole-last 0 (omega arith) ∙ sym (pole-last 1 (omega arith))
+
+  -- edge 0 leaves no other vertex
+  not-root : (v k : ℕ) → 2 ≤ v → tail s k ≡ v → k ≢ 0
+  not-root v k h p e = omega (arith, ap (tail s) e, S .root-tail)
+
+  inner-bound : (v : ℕ) → v < s .vertices → 2 ≤ v → (k : ℕ) → k < s .edges → tail s k ≡ v → endColumn s k ≤ lastColumn s v
+  unfolding lastColumn
+  inner-bound v h l k i e = rw (le-ltb v 2 l)
+      (omega (arith, end-other s k (not-root v k l e), edge-bound S greatest-extreme (rightColumn s) v h k i (touches-tail (s .tails) (s .heads) k v e)))
+
+  pub last-bound : (v : ℕ) → v < s .vertices → (k : ℕ) → k < s .edges → tail s k ≡ v → endColumn s k ≤ lastColumn s v
+  last-bound v h k i e = by-cases (decLt v 2) (λ l. omega (arith, pole-last v l, end-most k i)) (λ l. inner-bound v h (omega arith) k i e)
+
+  pub last-found : (v : ℕ) → v < s .vertices → v ≢ 1 → (k : ℕ) × (k < s .edges) × (tail s k ≡ v) × (endColumn s k ≡ lastColumn s v)
+  last-found v h n1 = by-cases (ℕ-discrete v 0)
+      (λ e. (0, omega (arith, S .limits .edges-least), S .root-tail ∙ sym e, end-root s ∙ sym (pole-last v (omega arith))))
+      (λ n0.
+      let (q, R, p) = has-corners (plane-of S .bipolar) .right h n0 n1 in
+      let X = right-side (plane-of S) (laws S) R in
+      let (i, t) = leaving (R .below) (R .first) in (
+        q / 2,
+        i,
+        t ∙ p,
+        omega (
+          arith,
+          end-other s (q / 2) (not-root v (q / 2) (omega arith) (t ∙ p)),
+          right-at s q,
+          ap (column s) (X .one-face true q (X .outgoing)),
+          long-of S .ends R,
+          ap (lastColumn s) p,
+        ),
+      ))

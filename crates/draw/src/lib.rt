@@ -5,7 +5,7 @@ ghost use lib.ListN.{getD};
 ghost use Rattle.clauses.specs.Contracts.{Ends};
 ghost use Rattle.sheet.specs.Sound.{Sound};
 ghost use Rattle.drawing.specs.Draw.{noVertexSegment, noEdgeSegment, zeroDrawing, drawCall};
-ghost use Rattle.draw.specs.Contracts.{table, sides, faceColumns, columnBeside, Rising, endFrom, edgeFrom, unreachedFrom, vertexFrom, widenedBy, drawingFrom};
+ghost use Rattle.draw.specs.Contracts.{table, leadingFaces, columnBeside, AtLeast, edgeFrom, unreachedFrom, segmentFrom, widenedBy, drawingFrom};
 use answers::Answer;
 use answers::is_accepted;
 use counting::wide;
@@ -18,13 +18,15 @@ use sheet::Sheet;
 // Stands for the first column of a vertex of which no edge was seen.
 const NONE: u16 = 256;
 
-// The face on one side of each of m edges: on the left where `side` is 0, on the right where it is 1.
-fn side_faces(m: usize, side: usize, faces: &[u16; 512]) -> [u16; 256]
-    requires { ⌜ (m ≤ 256) × (side < 2) ⌝ }
-    ensures { λ r. ⌜ r ≡ sides m side (now (faces .entry)) ⌝ }
+// The faces between which each of m edges leads: from which, where `side` is 0, or to which, where it is 1. An edge leads from its left face to its right
+// face, edge 0 from its right face to its left face.
+fn leading_faces(m: usize, side: usize, faces: &[u16; 512]) -> [u16; 256]
+    requires { ⌜ (0 < m) × (m ≤ 256) × (side < 2) ⌝ }
+    ensures { λ r. ⌜ r ≡ leadingFaces m side (now (faces .entry)) ⌝ }
 {
     let mut beside = [0u16; 256];
-    let mut k = 0;
+    beside[0] = faces[1 - side];
+    let mut k = 1;
     while k < m {
         beside[k] = faces[2 * k + side];
         k += 1;
@@ -32,53 +34,38 @@ fn side_faces(m: usize, side: usize, faces: &[u16; 512]) -> [u16; 256]
     beside
 }
 
-// The column of each face: edge 0 leads from its right face to its left face, the others from left to right.
-fn face_columns(m: usize, count: usize, left: [u16; 256], right: [u16; 256]) -> [u16; 256]
-    ensures { λ r. ⌜ r ≡ faceColumns count m left right ⌝ }
-{
-    let mut from = left;
-    let mut to = right;
-    from[0] = right[0];
-    to[0] = left[0];
-    let levels = digraph::levels(count, m, &from, &to);
-    levels.level
-}
-
-// The column of the face beside each of m edges.
-fn columns_beside(m: usize, level: &[u16; 256], beside: &[u16; 256]) -> [u16; 256]
-    requires { ⌜ Ends 256 m (now beside) ⌝ }
-    ensures { λ r. ⌜ r ≡ table (columnBeside (now (level .entry)) (now (beside .entry))) m 256 0 ⌝ }
+// The column of the face beside each of m edges, less `less`; of edge 0 the column `last`.
+fn columns_beside(
+    m: usize,
+    level: &[u16; 256],
+    beside: &[u16; 256],
+    last: u16,
+    less: u16,
+) -> [u16; 256]
+    requires { ⌜ (0 < m) × Ends 256 m (now beside) × AtLeast less m (now level) (now beside) ⌝ }
+    ensures { λ r. ⌜ r ≡ table (columnBeside (now (level .entry)) (now (beside .entry)) last less) m 256 0 ⌝ }
 {
     let mut columns = [0u16; 256];
-    let mut k = 0;
+    columns[0] = last;
+    let mut k = 1;
     while k < m {
         let face = wide(beside[k]);
-        columns[k] = level[face];
+        columns[k] = level[face] - less;
         k += 1;
     }
     columns
 }
 
-// How far right each of m edges lets its vertices go: to the column before the face to its right; edge 0, the last, to its own column.
-fn right_ends(m: usize, level: &[u16; 256], right: &[u16; 256], last: u16) -> [u16; 256]
-    requires { ⌜ (0 < m) × Ends 256 m (now right) × Rising m (now level) (now right) ⌝ }
-    ensures { λ r. ⌜ r ≡ table (endFrom (now (level .entry)) (now (right .entry)) last) m 256 0 ⌝ }
-{
-    let mut ends = [0u16; 256];
-    ends[0] = last;
-    let mut k = 1;
-    while k < m {
-        let face = wide(right[k]);
-        ends[k] = level[face] - 1;
-        k += 1;
-    }
-    ends
-}
-
-// The segment of each edge.
-fn edge_segments(s: Sheet, rows: &[u16; 256], columns: &[u16; 256]) -> [EdgeSegment; 256]
-    requires { ⌜ Sound s ⌝ }
-    ensures { λ r. ⌜ r ≡ table (edgeFrom s (now (rows .entry)) (now (columns .entry))) (s .edges) 256 noEdgeSegment ⌝ }
+// The segment of each of m edges.
+fn edge_segments(
+    m: usize,
+    tails: &[u16; 256],
+    heads: &[u16; 256],
+    rows: &[u16; 256],
+    columns: &[u16; 256],
+) -> [EdgeSegment; 256]
+    requires { ⌜ Ends 256 m (now tails) × Ends 256 m (now heads) ⌝ }
+    ensures { λ r. ⌜ r ≡ table (edgeFrom (now (tails .entry)) (now (heads .entry)) (now (rows .entry)) (now (columns .entry))) m 256 noEdgeSegment ⌝ }
 {
     let mut edges = [EdgeSegment {
         column: 0,
@@ -86,9 +73,9 @@ fn edge_segments(s: Sheet, rows: &[u16; 256], columns: &[u16; 256]) -> [EdgeSegm
         high: 0,
     }; 256];
     let mut k = 0;
-    while k < s.edges {
-        let tail = wide(s.tails[k]);
-        let head = wide(s.heads[k]);
+    while k < m {
+        let tail = wide(tails[k]);
+        let head = wide(heads[k]);
         edges[k] = EdgeSegment {
             column: columns[k],
             low: rows[tail],
@@ -146,27 +133,33 @@ fn unreached(n: usize, rows: &[u16; 256]) -> [VertexSegment; 128]
     vertices
 }
 
-// The segment of each vertex, widened by each of its edges.
+// The segment of each of n vertices, widened by each of m edges that leaves it: those that enter it stand between these. None leaves vertex 1, which goes
+// as far as vertex 0.
 fn vertex_segments(
-    s: Sheet,
+    n: usize,
+    m: usize,
+    tails: &[u16; 256],
     rows: &[u16; 256],
     columns: &[u16; 256],
     ends: &[u16; 256],
 ) -> [VertexSegment; 128]
-    requires { ⌜ Sound s ⌝ }
-    ensures { λ r. ⌜ r ≡ table (vertexFrom s (now (rows .entry)) (now (columns .entry)) (now (ends .entry)) (s .edges)) (s .vertices) 128 noVertexSegment ⌝ }
+    requires { ⌜ (1 < n) × (n ≤ 128) × Ends n m (now tails) ⌝ }
+    ensures { λ r. ⌜ r ≡ table (segmentFrom m (now (tails .entry)) (now (rows .entry)) (now (columns .entry)) (now (ends .entry))) n 128 noVertexSegment ⌝ }
 {
-    let mut vertices = unreached(s.vertices, rows);
+    let mut vertices = unreached(n, rows);
     let mut k = 0;
-    while k < s.edges {
-        let tail = wide(s.tails[k]);
-        let below = vertices[tail];
-        vertices[tail] = widened(below, columns[k], ends[k]);
-        let head = wide(s.heads[k]);
-        let above = vertices[head];
-        vertices[head] = widened(above, columns[k], ends[k]);
+    while k < m {
+        let tail = wide(tails[k]);
+        let at = vertices[tail];
+        vertices[tail] = widened(at, columns[k], ends[k]);
         k += 1;
     }
+    let source = vertices[0];
+    vertices[1] = VertexSegment {
+        row: rows[1],
+        first: source.first,
+        last: source.last,
+    };
     vertices
 }
 
@@ -175,8 +168,10 @@ fn compose(s: Sheet, rows: &[u16; 256], columns: &[u16; 256], ends: &[u16; 256])
     requires { ⌜ Sound s × (getD (now rows) 1 0 < 256) × (getD (now columns) 0 0 < 256) ⌝ }
     ensures { λ r. ⌜ r ≡ drawingFrom s (now (rows .entry)) (now (columns .entry)) (now (ends .entry)) ⌝ }
 {
-    let vertices = vertex_segments(s, rows, columns, ends);
-    let edges = edge_segments(s, rows, columns);
+    let tails = s.tails;
+    let heads = s.heads;
+    let vertices = vertex_segments(s.vertices, s.edges, &tails, rows, columns, ends);
+    let edges = edge_segments(s.edges, &tails, &heads, rows, columns);
     Drawing {
         rows: rows[1] + 1,
         columns: columns[0] + 1,
@@ -219,11 +214,13 @@ pub fn draw(s: Sheet) -> Drawn
     }
     let rows = found.rows;
     let faces = found.faces;
-    let left = side_faces(s.edges, 0, &faces);
-    let right = side_faces(s.edges, 1, &faces);
-    let level = face_columns(s.edges, found.count, left, right);
-    let columns = columns_beside(s.edges, &level, &left);
-    let ends = right_ends(s.edges, &level, &right, columns[0]);
+    let from = leading_faces(s.edges, 0, &faces);
+    let to = leading_faces(s.edges, 1, &faces);
+    let levels = digraph::levels(found.count, s.edges, &from, &to);
+    let level = levels.level;
+    let last = level[wide(to[0])];
+    let columns = columns_beside(s.edges, &level, &from, last, 0);
+    let ends = columns_beside(s.edges, &level, &to, last, 1);
     let drawing = compose(s, &rows, &columns, &ends);
     Drawn {
         answer: Answer::Accepted,

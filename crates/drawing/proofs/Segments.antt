@@ -69,7 +69,7 @@ module _ (s : Sheet) where
   dart-right true k = rw (dart-kind true k, dart-opposite true k)
   dart-right false k = rw (dart-kind false k)
 
-  right-at : (d : ℕ) → column s (plane.rightFace (mapOf s) d) ≡ rightColumn s (d / 2)
+  pub right-at : (d : ℕ) → column s (plane.rightFace (mapOf s) d) ≡ rightColumn s (d / 2)
   unfolding rightColumn
   right-at d = ap (column s) (ap (plane.rightFace (mapOf s)) (sym (dart-is d)) ∙ dart-right (isTail d) (d / 2))
 
@@ -131,7 +131,7 @@ module _ {s : Sheet} (S : Sound s) where
   last-greatest v h l = rw (lt-says v 2 .1 l) (record { found = found greatest-extreme (edgeColumn s) v h _ (column-at s); greatest = bound greatest-extreme (edgeColumn s) v h _ (column-at s) })
 
   -- a vertex with a right corner is neither 0 nor 1
-  inner : {k : ℕ} → Right (mapOf s) k → 2 ≤ vertex s k
+  pub inner : {k : ℕ} → Right (mapOf s) k → 2 ≤ vertex s k
   inner {k} R = omega (arith, off-source, off-sink)
     where
       off-source : vertex s k ≢ 0

@@ -27,10 +27,10 @@ use Rattle.drawing.proofs.Segments.{vertex-entry, edge-stands, dart-col
 use Rattle.drawing.proofs.Renumbering.{renumbered, column-renumbered}
 
 -- the bar at a wire's tail end, or at its head end
-abbrev endAt : Bool → Sheet → ℕ → ℕ
+abbrev pub endAt : Bool → Sheet → ℕ → ℕ
 endAt b s k = cond b (tail s k) (head s k)
 
-end-at : (s : Sheet) (b : Bool) (d : ℕ) → isTail d ≡ b → endAt b s (d / 2) ≡ vertex s d
+pub end-at : (s : Sheet) (b : Bool) (d : ℕ) → isTail d ≡ b → endAt b s (d / 2) ≡ vertex s d
 unfolding vertex
 end-at s b d o = rw o refl
 

@@ -1,12 +1,14 @@
--- The face to the right of a vertex: between its rightmost outgoing and its rightmost incoming edge.
+-- The face to the right of a vertex: between its rightmost outgoing and its rightmost incoming edge. Where the leftmost edges of a vertex stand.
 use mathlib.Core.Path.{_≡_, refl, sym, _∙_, ap}
 use mathlib.Core.Bool.{Bool, true, false, cond}
 use Prim.Native.Nat.{ℕ, _≤_, _<_}
 use native.Mathlib.Decide.{decLe}
 use native.Mathlib.Omega.{arith}
-use Rattle.counting.proofs.Iterate.{by-bool}
+use Rattle.counting.specs.Orbits.{iter}
+use Rattle.counting.proofs.Iterate.{by-bool, iter-keeps}
+use Rattle.counting.proofs.Reach.{returns}
 use Rattle.planarmap.specs.Map.{Map, Bipolar, Plane}
-use Rattle.planarmap.specs.Corners.{Right, cornerFace}
+use Rattle.planarmap.specs.Corners.{Left, Right, cornerFace}
 use Rattle.planarmap.specs.Columns.{ColumnLaws}
 use Rattle.planarmap.specs.Contact.{edgeColumn, rightFace, Rightmost, RightSide}
 use Rattle.planarmap.proofs.Laws.{next-below, face-next}
@@ -19,76 +21,103 @@ unfolding rightFace
 face-of M column true d o = rw o refl
 face-of M column false d o = rw o refl
 
-module _ {M : Map} (P : Plane M) {column : ℕ → ℕ} (L : ColumnLaws M column) {k : ℕ} (R : Right M k) where
+module _ {M : Map} (P : Plane M) {column : ℕ → ℕ} (L : ColumnLaws M column) where
   B : Bipolar M
   B = P .bipolar
 
-  abbrev v : ℕ
-  v = M .vertex k
+  -- ---- the right side of a vertex
 
-  -- the two darts of the corner
-  abbrev beside : Bool → ℕ
-  beside b = cond b k (M .next k)
+  module _ {k : ℕ} (R : Right M k) where
+    abbrev v : ℕ
+    v = M .vertex k
 
-  corner : (b : Bool) → Dart P L b v (beside b)
-  corner true = record { below = R .below; at-v = refl; kind = R .first }
-  corner false = record { below = next-below B (R .below); at-v = B .next-vertex (R .below); kind = R .second }
+    -- the two darts of the corner
+    abbrev beside : Bool → ℕ
+    beside b = cond b k (M .next k)
 
-  -- the face to the right of both
-  corner-face : (b : Bool) → rightFace M (beside b) ≡ cornerFace M k
-  unfolding rightFace
-  corner-face true = rw (R .first) (sym (face-next B (R .below)))
-  corner-face false = rw (R .second) refl
+    corner : (b : Bool) → Dart P L b v (beside b)
+    corner true = record { below = R .below; at-v = refl; kind = R .first }
+    corner false = record { below = next-below B (R .below); at-v = B .next-vertex (R .below); kind = R .second }
 
-  corner-right : (b : Bool) → rightAt M column b (beside b) ≡ column (cornerFace M k)
-  corner-right b = sym (face-of M column b (beside b) (corner b .kind)) ∙ ap column (corner-face b)
+    -- the face to the right of both
+    corner-face : (b : Bool) → rightFace M (beside b) ≡ cornerFace M k
+    unfolding rightFace
+    corner-face true = rw (R .first) (sym (face-next B (R .below)))
+    corner-face false = rw (R .second) refl
 
-  module _ (b : Bool) {e : ℕ} (E : Dart P L b v e) where
-    before : leftAt M column b e < column (cornerFace M k)
-    before = omega (arith, right-span P L R (E .below) (E .at-v), column-of M column b e (E .kind))
+    corner-right : (b : Bool) → rightAt M column b (beside b) ≡ column (cornerFace M k)
+    corner-right b = sym (face-of M column b (beside b) (corner b .kind)) ∙ ap column (corner-face b)
 
-    -- the edge of no dart of the kind stands further right
-    no-further : leftAt M column b e ≤ leftAt M column b (beside b)
-    no-further = elim (decLe (leftAt M column b e) (leftAt M column b (beside b))) [
-      | yes l ↦ l
-      | no l ↦ omega (arith, ap (leftAt M column b) (one-dart P L (corner b) E (omega arith) (omega (arith, before, corner-right b))))
-    ]
+    module _ (b : Bool) {e : ℕ} (E : Dart P L b v e) where
+      before : leftAt M column b e < column (cornerFace M k)
+      before = omega (arith, right-span P L R (E .below) (E .at-v), column-of M column b e (E .kind))
 
-    -- and one that stands as far right is the corner's
-    same : leftAt M column b (beside b) ≤ leftAt M column b e → beside b ≡ e
-    same l = one-dart P L (corner b) E l (omega (arith, before, corner-right b))
+      -- the edge of no dart of the kind stands further right
+      no-further : leftAt M column b e ≤ leftAt M column b (beside b)
+      no-further = elim (decLe (leftAt M column b e) (leftAt M column b (beside b))) [
+        | yes l ↦ l
+        | no l ↦ omega (arith, ap (leftAt M column b) (one-dart P L (corner b) E (omega arith) (omega (arith, before, corner-right b))))
+      ]
 
-    face-no-further : rightAt M column b e ≤ column (cornerFace M k)
-    face-no-further = elim (decLe (rightAt M column b e) (column (cornerFace M k))) [
-      | yes l ↦ l
-      | no l ↦ omega (arith, corner-right b, ap (rightAt M column b) (one-dart P L E (corner b) no-further (omega (arith, before′))))
-    ]
+      -- and one that stands as far right is the corner's
+      same : leftAt M column b (beside b) ≤ leftAt M column b e → beside b ≡ e
+      same l = one-dart P L (corner b) E l (omega (arith, before, corner-right b))
+
+      face-no-further : rightAt M column b e ≤ column (cornerFace M k)
+      face-no-further = elim (decLe (rightAt M column b e) (column (cornerFace M k))) [
+        | yes l ↦ l
+        | no l ↦ omega (arith, corner-right b, ap (rightAt M column b) (one-dart P L E (corner b) no-further (omega (arith, before′))))
+      ]
+        where
+          before′ : leftAt M column b (beside b) < column (cornerFace M k)
+          before′ = omega (arith, right-span P L R (corner b .below) (corner b .at-v), column-of M column b (beside b) (corner b .kind))
+
+    rightmost : (b : Bool) → Rightmost M column v b (beside b)
+    rightmost b = record {
+      below = corner b .below;
+      at-v = corner b .at-v;
+      kind = corner b .kind;
+      greatest = λ e h p o. omega (arith, no-further b (record { below = h; at-v = p; kind = o }), column-of M column b e o, column-of M column b (beside b) (corner b .kind));
+    }
+
+    one-face : (b : Bool) (d : ℕ) → Rightmost M column v b d → rightFace M d ≡ cornerFace M k
+    one-face b d F =
+        let D : Dart P L b v d = record { below = F .below; at-v = F .at-v; kind = F .kind } in
+        let C = corner b in
+        ap (rightFace M) (sym (same b D (omega (arith, F .greatest (beside b) (C .below) (C .at-v) (C .kind), column-of M column b d (F .kind), column-of M column b (beside b) (C .kind)))))
+        ∙ corner-face b
+
+    pub right-side : RightSide M column k
+    right-side = record {
+      outgoing = rightmost true;
+      incoming = rightmost false;
+      one-face = one-face;
+      greatest = λ d h p. by-bool (M .out d) (at true d h p) (at false d h p);
+    }
       where
-        before′ : leftAt M column b (beside b) < column (cornerFace M k)
-        before′ = omega (arith, right-span P L R (corner b .below) (corner b .at-v), column-of M column b (beside b) (corner b .kind))
+        at : (b : Bool) (d : ℕ) → d < M .darts → M .vertex d ≡ v → M .out d ≡ b → column (rightFace M d) ≤ column (cornerFace M k)
+        at b d h p o = omega (arith, face-of M column b d o, face-no-further b (record { below = h; at-v = p; kind = o }))
 
-  rightmost : (b : Bool) → Rightmost M column v b (beside b)
-  rightmost b = record {
-    below = corner b .below;
-    at-v = corner b .at-v;
-    kind = corner b .kind;
-    greatest = λ e h p o. omega (arith, no-further b (record { below = h; at-v = p; kind = o }), column-of M column b e o, column-of M column b (beside b) (corner b .kind));
-  }
+  -- ---- its left side
 
-  one-face : (b : Bool) (d : ℕ) → Rightmost M column v b d → rightFace M d ≡ cornerFace M k
-  one-face b d F =
-      let D : Dart P L b v d = record { below = F .below; at-v = F .at-v; kind = F .kind } in
-      let C = corner b in
-      ap (rightFace M) (sym (same b D (omega (arith, F .greatest (beside b) (C .below) (C .at-v) (C .kind), column-of M column b d (F .kind), column-of M column b (beside b) (C .kind)))))
-      ∙ corner-face b
+  -- a vertex with a left corner has an outgoing edge as far left as any
+  pub leftmost-out : {l : ℕ} → Left M l → edgeColumn M column (M .next l) ≡ column (cornerFace M l)
+  leftmost-out {l} A = column-of M column true (M .next l) (A .second)
 
-  pub right-side : RightSide M column k
-  right-side = record {
-    outgoing = rightmost true;
-    incoming = rightmost false;
-    one-face = one-face;
-    greatest = λ d h p. by-bool (M .out d) (at true d h p) (at false d h p);
-  }
+  -- vertices 0 and 1 each have an edge in the first column
+  pub source-first : edgeColumn M column (M .next (M .root)) ≡ 0
+  source-first =
+      let h = next-below B (B .root-below) in
+      column-of M column true (M .next (M .root)) (B .source h (B .next-vertex (B .root-below) ∙ B .root-tail)) ∙ ap column (face-next B (B .root-below)) ∙ L .first
+
+  pub sink-first : (d : ℕ) × (d < M .darts) × (M .vertex d ≡ 1) × (edgeColumn M column d ≡ 0)
+  sink-first =
+      let h = B .opposite-below (B .root-below) in
+      let (i, _, e) = returns (B .rotation) (M .opposite (M .root)) h in
+      let d = iter (M .next) i (M .opposite (M .root)) in
+      let below = iter-below i in
+      let at-1 : M .vertex d ≡ 1 = sym (B .next-vertex below) ∙ ap (M .vertex) e ∙ B .root-head in
+      (d, below, at-1, column-of M column false d (B .sink below at-1) ∙ ap column (sym (face-next B below) ∙ ap (M .face) e) ∙ L .first)
     where
-      at : (b : Bool) (d : ℕ) → d < M .darts → M .vertex d ≡ v → M .out d ≡ b → column (rightFace M d) ≤ column (cornerFace M k)
-      at b d h p o = omega (arith, face-of M column b d o, face-no-further b (record { below = h; at-v = p; kind = o }))
+      iter-below : (i : ℕ) → iter (M .next) i (M .opposite (M .root)) < M .darts
+      iter-below i = iter-keeps (M .next) (λ d. d < M .darts) (λ d. next-below B) i (M .opposite (M .root)) (B .opposite-below (B .root-below))

@@ -1,13 +1,14 @@
 -- `draw::draw` meets its contract: a sheet that is not sound is refused, and the drawing of a sound one composed. Assumes nothing.
-use mathlib.Core.Path.{_≡_}
+use mathlib.Core.Path.{_≡_, ap}
 use mathlib.Core.Bool.{true}
 use native.Mathlib.Omega.{arith}
+use lib.ListN.{getD}
 use borrow.Author.Tests.{not-true, not-false}
 use Rattle.sheet.specs.Darts.{Sized}
 use Rattle.sheet.specs.Sound.{Sound}
 use Rattle.sheet.specs.Check.{sound, rowLevels, faceTable, faceCount}
 use Rattle.soundness.proofs.Law.{sound-law}
-use Rattle.draw.proofs.Laying.{left-in, right-rises, all-small, all-laid}
+use Rattle.draw.proofs.Laying.{first-in, from-rises, to-rise, all-small, all-laid}
 use Rattle.draw.proofs.Outcome.{not-sound, is-sound, answered, laid-from}
 use borrow.Author.Needs.{needs}
 use Rattle.draw.proofs.draw.Statement.{statement}
@@ -40,48 +41,69 @@ found : (c : tie.Else1) → let sheet = c .before .before .before .args .s in le
     Sound sheet × (findings .rows ≡ rowLevels sheet .level) × (findings .faces ≡ faceTable sheet .orbit) × (findings .count ≡ faceCount sheet)
 found c = laid-from _ _ (c .before .before .examine .ensures) (has-sound c) (is-so c)
 
-side-faces-requires : tie.Need-side-faces-requires
-side-faces-requires c κs = (found (c .before .before .before) .0 .limits .edges-most, omega arith)
+leading-faces-requires : tie.Need-leading-faces-requires
+leading-faces-requires c κs = let limits = found (c .before .before .before) .0 .limits in (omega (arith, limits .edges-least), limits .edges-most, omega arith)
 
-side-faces-requires-2 : tie.Need-side-faces-requires-2
-side-faces-requires-2 c κs = (found (c .before .before .before .before .before) .0 .limits .edges-most, omega arith)
+leading-faces-requires-2 : tie.Need-leading-faces-requires-2
+leading-faces-requires-2 c κs = let limits = found (c .before .before .before .before .before) .0 .limits in (omega (arith, limits .edges-least), limits .edges-most, omega arith)
 
-face-columns-requires : tie.Need-face-columns-requires
-face-columns-requires c κs = search needs
+levels-requires : tie.Need-levels-requires
+levels-requires c κs = search needs
+
+array-read-wide : tie.Need-array-read-wide
+array-read-wide c = search needs
+
+wide-requires : tie.Need-wide-requires
+wide-requires c κs = search needs
+
+mul-last : tie.Need-mul-last
+mul-last c = search needs
+
+array-read-last : tie.Need-array-read-last
+array-read-last c =
+    let levels = c .before .before in
+    let to = levels .before .before .before in
+    let from = to .before .before in
+    let accepted = from .before .before .before .before in
+    omega (arith, c .wide .ensures .0, first-in (found accepted .0) _ (found accepted .2) _ (from .leading-faces .ensures) _ (to .leading-faces2 .ensures))
 
 columns-beside-requires : tie.Need-columns-beside-requires
 columns-beside-requires c κs =
-    let left = c .before .before .before .before .before in
-    let accepted = left .before .before .before .before in
-    left-in (found accepted .0) _ (found accepted .2) _ (left .side-faces .ensures)
+    let levels = c .before .before .before .before in
+    let to = levels .before .before .before in
+    let from = to .before .before in
+    let accepted = from .before .before .before .before in
+    from-rises (found accepted .0) _ (found accepted .2) _ (from .leading-faces .ensures) _ (to .leading-faces2 .ensures) _ (found accepted .3) _ (levels .levels .ensures)
 
-array-read-right-ends : tie.Need-array-read-right-ends
-array-read-right-ends c = search needs
-
-right-ends-requires : tie.Need-right-ends-requires
-right-ends-requires c κs =
-    let levels = c .before .before .before .before .before in
-    let left = levels .before .before .before in
-    let accepted = left .before .before .before .before in
-    right-rises (found accepted .0) _ (found accepted .2) _ (left .side-faces .ensures) _ (levels .before .side-faces2 .ensures) _ (found accepted .3) _ (levels .face-columns .ensures)
+columns-beside-requires-2 : tie.Need-columns-beside-requires-2
+columns-beside-requires-2 c κs =
+    let levels = c .before .before .before .before .before .before .before in
+    let to = levels .before .before .before in
+    let from = to .before .before in
+    let accepted = from .before .before .before .before in
+    to-rise (found accepted .0) _ (found accepted .2) _ (from .leading-faces .ensures) _ (to .leading-faces2 .ensures) _ (found accepted .3) _ (levels .levels .ensures)
 
 compose-requires : tie.Need-compose-requires
 compose-requires c κs =
     let columns = c .before .before .before .before .before .before in
-    let levels = columns .before .before .before in
-    let left = levels .before .before .before in
-    let accepted = left .before .before .before .before in
-    all-small (found accepted .0) _ (found accepted .2) _ (left .side-faces .ensures) _ (levels .before .side-faces2 .ensures) _ (found accepted .3) _ (levels .face-columns .ensures) _ (columns .columns-beside .ensures) _ (found accepted .1)
+    let last = columns .before .before .before in
+    let levels = last .before .before in
+    let to = levels .before .before .before in
+    let from = to .before .before in
+    let accepted = from .before .before .before .before in
+    all-small (found accepted .0) _ (found accepted .2) _ (from .leading-faces .ensures) _ (to .leading-faces2 .ensures) _ (found accepted .3) _ (levels .levels .ensures) _ (ap (λ face. getD (levels .levels .result .level) face 0) (last .wide .ensures .0)) _ (columns .columns-beside .ensures) _ (found accepted .1)
 
 returns-2 : tie.Need-returns-2
 returns-2 c =
     let ends = c .before .before .before .before in
     let columns = ends .before .before .before in
-    let levels = columns .before .before .before in
-    let left = levels .before .before .before in
-    let accepted = left .before .before .before .before in
+    let last = columns .before .before .before in
+    let levels = last .before .before in
+    let to = levels .before .before .before in
+    let from = to .before .before in
+    let accepted = from .before .before .before .before in
     is-sound _ (is-so accepted) _
-    (all-laid (found accepted .0) _ (found accepted .2) _ (left .side-faces .ensures) _ (levels .before .side-faces2 .ensures) _ (found accepted .3) _ (levels .face-columns .ensures) _ (columns .columns-beside .ensures) _ (found accepted .1) _ (ends .right-ends .ensures) _ (c .compose .ensures))
+    (all-laid (found accepted .0) _ (found accepted .2) _ (from .leading-faces .ensures) _ (to .leading-faces2 .ensures) _ (found accepted .3) _ (levels .levels .ensures) _ (ap (λ face. getD (levels .levels .result .level) face 0) (last .wide .ensures .0)) _ (columns .columns-beside .ensures) _ (found accepted .1) _ (ends .columns-beside2 .ensures) _ (c .compose .ensures))
 
 pub draw-spec : {M : Type 1} → statement M
 draw-spec =
@@ -91,11 +113,14 @@ draw-spec =
     is-accepted-requires
     zeros-requires
     returns
-    side-faces-requires
-    side-faces-requires-2
-    face-columns-requires
+    leading-faces-requires
+    leading-faces-requires-2
+    levels-requires
+    array-read-wide
+    wide-requires
+    mul-last
+    array-read-last
     columns-beside-requires
-    array-read-right-ends
-    right-ends-requires
+    columns-beside-requires-2
     compose-requires
     returns-2)

@@ -2,7 +2,6 @@
 use Prim.Native.Nat.{_-_, _≤_, _<_}
 use mathlib.Core.Path.{_≡_, refl}
 use native.Mathlib.Omega.{arith}
-use Rattle.sheet.specs.Sound.{Joins}
 use Rattle.drawing.specs.Draw.{noEdgeSegment}
 use Rattle.draw.specs.Contracts.{table, edgeFrom}
 use Rattle.draw.proofs.Filling.{table-none, table-more, table-over}
@@ -11,20 +10,19 @@ use Rattle.draw.proofs.edge_segments.Statement.{statement}
 use Rattle.draw.proofs.edge_segments.Tie as tie
 
 abbrev Inv-loop : tie.InvT-loop
-Inv-loop rows columns s edges₀ k₀ edges k = (k ≤ s .edges) × (edges ≡ table (edgeFrom s rows columns) k 256 noEdgeSegment)
+Inv-loop m tails heads rows columns edges₀ k₀ edges k = (k ≤ m) × (edges ≡ table (edgeFrom tails heads rows columns) k 256 noEdgeSegment)
 
 abbrev μ-loop : tie.MeasureT-loop
-μ-loop rows columns s edges₀ k₀ edges k = s .edges - k
+μ-loop m tails heads rows columns edges₀ k₀ edges k = m - k
 
 -- the edge at hand joins two vertices
-joins : (c : tie.In-loop Inv-loop μ-loop) → Joins (c .before .before .args .t1) (c .before .loop .k)
-joins c = c .before .before .pre .joins (c .before .loop .k) (c .loop-test .taken)
-
 tail-in : (c : tie.After-wide Inv-loop μ-loop) → c .wide .result < 256
-tail-in c = omega (arith, c .wide .ensures .0, joins (c .before .before) .tail-in, c .before .before .before .before .pre .limits .vertices-most)
+tail-in c = let at-loop = c .before .before .before in omega (arith, c .wide .ensures .0, at-loop .before .pre .0 .inside (at-loop .loop .k) (c .before .before .loop-test .taken))
 
 head-in : (c : tie.After-wide2 Inv-loop μ-loop) → c .wide2 .result < 256
-head-in c = omega (arith, c .wide2 .ensures .0, joins (c .before .before .before .before) .head-in, c .before .before .before .before .before .before .pre .limits .vertices-most)
+head-in c =
+    let in-loop = c .before .before .before .before in
+    omega (arith, c .wide2 .ensures .0, in-loop .before .before .pre .1 .inside (in-loop .before .loop .k) (in-loop .loop-test .taken))
 
 loop-holds : tie.Need-loop-holds Inv-loop μ-loop
 loop-holds c = (search needs, table-none _ 256 noEdgeSegment)
@@ -47,23 +45,23 @@ element-copy-out-wide-2 c = search needs
 wide-requires-2 : tie.Need-wide-requires-2 Inv-loop μ-loop
 wide-requires-2 c κs = search needs
 
-mul-t10 : tie.Need-mul-t10 Inv-loop μ-loop
-mul-t10 c = search needs
+mul-t12 : tie.Need-mul-t12 Inv-loop μ-loop
+mul-t12 c = search needs
 
-element-copy-out-t14 : tie.Need-element-copy-out-t14 Inv-loop μ-loop
-element-copy-out-t14 c = search needs
+element-copy-out-t15 : tie.Need-element-copy-out-t15 Inv-loop μ-loop
+element-copy-out-t15 c = search needs
 
-mul-t19 : tie.Need-mul-t19 Inv-loop μ-loop
-mul-t19 c = search needs
+mul-t20 : tie.Need-mul-t20 Inv-loop μ-loop
+mul-t20 c = search needs
 
-element-copy-out-t22 : tie.Need-element-copy-out-t22 Inv-loop μ-loop
-element-copy-out-t22 c = tail-in (c .before .before .before)
+element-copy-out-t23 : tie.Need-element-copy-out-t23 Inv-loop μ-loop
+element-copy-out-t23 c = tail-in (c .before .before .before)
 
-mul-t23 : tie.Need-mul-t23 Inv-loop μ-loop
-mul-t23 c = search needs
+mul-t24 : tie.Need-mul-t24 Inv-loop μ-loop
+mul-t24 c = search needs
 
-element-copy-out-t26 : tie.Need-element-copy-out-t26 Inv-loop μ-loop
-element-copy-out-t26 c = head-in (c .before .before)
+element-copy-out-t27 : tie.Need-element-copy-out-t27 Inv-loop μ-loop
+element-copy-out-t27 c = head-in (c .before .before)
 
 mul-edges : tie.Need-mul-edges Inv-loop μ-loop
 mul-edges c = search needs
@@ -99,12 +97,12 @@ edge-segments-spec =
     mul-wide-2
     element-copy-out-wide-2
     wide-requires-2
-    mul-t10
-    element-copy-out-t14
-    mul-t19
-    element-copy-out-t22
-    mul-t23
-    element-copy-out-t26
+    mul-t12
+    element-copy-out-t15
+    mul-t20
+    element-copy-out-t23
+    mul-t24
+    element-copy-out-t27
     mul-edges
     array-set-from-edges
     add-k
