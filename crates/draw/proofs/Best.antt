@@ -32,11 +32,6 @@ module _ (better : ℕ → ℕ → ℕ) (z : ℕ) (p : ℕ → Bool) (f : ℕ �
   unfolding bestBelow
   more-fails n t = rw (add-one n, t) refl
 
-  pub best-agree : (g : ℕ → ℕ) (n : ℕ) → ((k : ℕ) → k < n → f k ≡ g k) → bestBelow better z p f n ≡ bestBelow better z p g n
-  unfolding bestBelow
-  best-agree g zero h = refl
-  best-agree g (suc n) h = rw (best-agree g n (λ k l. h k (omega arith)), h n (omega arith)) refl
-
 module _ {R : ℕ → ℕ → Type 0} {better : ℕ → ℕ → ℕ} (B : Better R better) (z : ℕ) (p : ℕ → Bool) (f : ℕ → ℕ) where
   found-bounds : (n k : ℕ) → k < n → p k ≡ true → R (bestBelow better z p f n) (f k)
   unfolding bestBelow

@@ -2,7 +2,7 @@
 use Prim.Native.Nat.{ℕ, _-_, _/_, _≤_, _<_}
 use mathlib.Core.Path.{_≡_, refl, sym, ap, _∙_}
 use mathlib.Core.Logic.{_≢_, by-cases}
-use mathlib.Core.Bool.{true, false, cond}
+use mathlib.Core.Bool.{true, cond}
 use native.Mathlib.Decide.{ℕ-discrete, decLt}
 use native.Mathlib.Omega.{arith}
 use lib.Dec.{eqb}
@@ -20,7 +20,7 @@ use Rattle.sheet.specs.Check.{face, column}
 use Rattle.soundness.proofs.Darts.{edge-below, dart-vertex}
 use Rattle.soundness.proofs.Plane.{plane-of}
 use Rattle.soundness.proofs.Columns.{column-law}
-use Rattle.drawing.specs.Draw.{edgeColumn, rightColumn, columnsAt, greatest, firstColumn, lastColumn}
+use Rattle.drawing.specs.Draw.{edgeColumn, rightColumn, firstColumn, lastColumn}
 use Rattle.drawing.proofs.Extremes.{greatest-extreme}
 use Rattle.drawing.proofs.Segments.{dart-column, column-at, right-at, edge-found, edge-bound, laws, long-of}
 use Rattle.drawing.proofs.Sides.{end-at}

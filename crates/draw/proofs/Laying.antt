@@ -1,5 +1,5 @@
 -- The drawing of a sound sheet, laid out step by step from its rows and faces. Assumes nothing.
-use Prim.Native.Nat.{ℕ, _<_}
+use Prim.Native.Nat.{ℕ, _≤_, _<_}
 use mathlib.Core.Path.{_≡_, refl, ap, _∙_}
 use mathlib.Core.List.{List}
 use native.Mathlib.Omega.{arith}
@@ -36,8 +36,8 @@ module _ {s : Sheet} (S : Sound s) (faces : List ℕ) (fe : faces ≡ faceTable 
       pub from-rises : (0 < s .edges) × Ends 256 (s .edges) from × AtLeast 0 (s .edges) (levels .level) from
       from-rises = (some S, rw starts (from-in S), λ k h n. omega arith)
 
-      pub to-rise : (0 < s .edges) × Ends 256 (s .edges) to × AtLeast 1 (s .edges) (levels .level) to
-      to-rise = rw (leveled, targets) (some S, to-in S, to-rises S)
+      pub to-rise : (less : ℕ) → less ≤ 1 → (0 < s .edges) × Ends 256 (s .edges) to × AtLeast less (s .edges) (levels .level) to
+      to-rise less l = rw (leveled, targets) (some S, to-in S, λ k h n. omega (arith, to-rises S k h n))
 
       module _ (last : ℕ) (le : last ≡ getD (levels .level) (getD to 0 0) 0) where
         lasts : last ≡ edgeColumn s 0

@@ -131,7 +131,7 @@ module _ {s : Sheet} (S : Sound s) where
   last-greatest v h l = rw (lt-says v 2 .1 l) (record { found = found greatest-extreme (edgeColumn s) v h _ (column-at s); greatest = bound greatest-extreme (edgeColumn s) v h _ (column-at s) })
 
   -- a vertex with a right corner is neither 0 nor 1
-  pub inner : {k : ℕ} → Right (mapOf s) k → 2 ≤ vertex s k
+  inner : {k : ℕ} → Right (mapOf s) k → 2 ≤ vertex s k
   inner {k} R = omega (arith, off-source, off-sink)
     where
       off-source : vertex s k ≢ 0

@@ -81,7 +81,7 @@ columns-beside-requires-2 c κs =
     let to = levels .before .before .before in
     let from = to .before .before in
     let accepted = from .before .before .before .before in
-    to-rise (found accepted .0) _ (found accepted .2) _ (from .leading-faces .ensures) _ (to .leading-faces2 .ensures) _ (found accepted .3) _ (levels .levels .ensures)
+    to-rise (found accepted .0) _ (found accepted .2) _ (from .leading-faces .ensures) _ (to .leading-faces2 .ensures) _ (found accepted .3) _ (levels .levels .ensures) _ (omega arith)
 
 compose-requires : tie.Need-compose-requires
 compose-requires c κs =
