@@ -72,10 +72,10 @@ module _ {s : Sheet} (S : Sound s) where
   unfolding columnBeside endColumn
   ends-are = table-agree _ 256 0 (endColumn s) (s .edges) (λ k h. by-cases (ℕ-discrete k 0) (λ e. rw e refl) (λ n. rw (ne-eqb k 0 n, to-column k h n) refl))
 
-  -- a face to which another edge leads is right of the one from which it leads
-  pub to-rises : AtLeast 1 (s .edges) level (edgeTable (faceTo s) s)
+  -- a face to which another edge leads is right of the one from which it leads, and so of the first column
+  pub right-of-first : AtLeast 1 (s .edges) level (edgeTable (faceTo s) s)
   unfolding rightColumn
-  to-rises k h n = omega (arith, to-column k h n, column-law S .rises k h n)
+  right-of-first k h n = omega (arith, to-column k h n, column-law S .rises k h n)
 
   -- ---- how many faces there are
 

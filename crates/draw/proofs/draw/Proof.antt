@@ -8,7 +8,7 @@ use Rattle.sheet.specs.Darts.{Sized}
 use Rattle.sheet.specs.Sound.{Sound}
 use Rattle.sheet.specs.Check.{sound, rowLevels, faceTable, faceCount}
 use Rattle.soundness.proofs.Law.{sound-law}
-use Rattle.draw.proofs.Laying.{first-in, from-rises, to-rise, all-small, all-laid}
+use Rattle.draw.proofs.Laying.{Leveled, leveled-from, first-in, from-rises, to-rises, all-small, all-laid}
 use Rattle.draw.proofs.Outcome.{not-sound, is-sound, answered, laid-from}
 use borrow.Author.Needs.{needs}
 use Rattle.draw.proofs.draw.Statement.{statement}
@@ -59,51 +59,40 @@ wide-requires c κs = search needs
 mul-last : tie.Need-mul-last
 mul-last c = search needs
 
-array-read-last : tie.Need-array-read-last
-array-read-last c =
-    let levels = c .before .before in
-    let to = levels .before .before .before in
+-- what is known once the columns of the faces are found
+leveled : (c : tie.After-levels) → let to = c .before .before .before in let from = to .before .before in let accepted = from .before .before .before .before in
+    Leveled (accepted .before .before .before .args .s) (accepted .before .before .examine .result .rows) (from .leading-faces .result) (to .leading-faces2 .result) (c .levels .result .level)
+leveled c =
+    let to = c .before .before .before in
     let from = to .before .before in
-    let accepted = from .before .before .before .before in
-    omega (arith, c .wide .ensures .0, first-in (found accepted .0) _ (found accepted .2) _ (from .leading-faces .ensures) _ (to .leading-faces2 .ensures))
+    let (S, rows, faces, count) = found (from .before .before .before .before) in
+    leveled-from S rows faces count (from .leading-faces .ensures) (to .leading-faces2 .ensures) (c .levels .ensures)
+
+last-is : (c : tie.After-wide) → let level = c .before .before .levels .result .level in getD level (c .wide .result) 0 ≡ getD level (getD (c .before .before .before .before .before .leading-faces2 .result) 0 0) 0
+last-is c = ap (λ face. getD (c .before .before .levels .result .level) face 0) (c .wide .ensures .0)
+
+array-read-last : tie.Need-array-read-last
+array-read-last c = omega (arith, c .wide .ensures .0, first-in (leveled (c .before .before)))
 
 columns-beside-requires : tie.Need-columns-beside-requires
-columns-beside-requires c κs =
-    let levels = c .before .before .before .before in
-    let to = levels .before .before .before in
-    let from = to .before .before in
-    let accepted = from .before .before .before .before in
-    from-rises (found accepted .0) _ (found accepted .2) _ (from .leading-faces .ensures) _ (to .leading-faces2 .ensures) _ (found accepted .3) _ (levels .levels .ensures)
+columns-beside-requires c κs = from-rises (leveled (c .before .before .before .before))
 
 columns-beside-requires-2 : tie.Need-columns-beside-requires-2
-columns-beside-requires-2 c κs =
-    let levels = c .before .before .before .before .before .before .before in
-    let to = levels .before .before .before in
-    let from = to .before .before in
-    let accepted = from .before .before .before .before in
-    to-rise (found accepted .0) _ (found accepted .2) _ (from .leading-faces .ensures) _ (to .leading-faces2 .ensures) _ (found accepted .3) _ (levels .levels .ensures) _ (omega arith)
+columns-beside-requires-2 c κs = to-rises (leveled (c .before .before .before .before .before .before .before)) _ (omega arith)
 
 compose-requires : tie.Need-compose-requires
 compose-requires c κs =
     let columns = c .before .before .before .before .before .before in
     let last = columns .before .before .before in
-    let levels = last .before .before in
-    let to = levels .before .before .before in
-    let from = to .before .before in
-    let accepted = from .before .before .before .before in
-    all-small (found accepted .0) _ (found accepted .2) _ (from .leading-faces .ensures) _ (to .leading-faces2 .ensures) _ (found accepted .3) _ (levels .levels .ensures) _ (ap (λ face. getD (levels .levels .result .level) face 0) (last .wide .ensures .0)) _ (columns .columns-beside .ensures) _ (found accepted .1)
+    all-small (leveled (last .before .before)) (last-is last) (columns .columns-beside .ensures)
 
 returns-2 : tie.Need-returns-2
 returns-2 c =
     let ends = c .before .before .before .before in
     let columns = ends .before .before .before in
     let last = columns .before .before .before in
-    let levels = last .before .before in
-    let to = levels .before .before .before in
-    let from = to .before .before in
-    let accepted = from .before .before .before .before in
-    is-sound _ (is-so accepted) _
-    (all-laid (found accepted .0) _ (found accepted .2) _ (from .leading-faces .ensures) _ (to .leading-faces2 .ensures) _ (found accepted .3) _ (levels .levels .ensures) _ (ap (λ face. getD (levels .levels .result .level) face 0) (last .wide .ensures .0)) _ (columns .columns-beside .ensures) _ (found accepted .1) _ (ends .columns-beside2 .ensures) _ (c .compose .ensures))
+    let accepted = last .before .before .before .before .before .before .before .before .before .before .before in
+    is-sound _ (is-so accepted) _ (all-laid (leveled (last .before .before)) (last-is last) (columns .columns-beside .ensures) (ends .columns-beside2 .ensures) (c .compose .ensures))
 
 pub draw-spec : {M : Type 1} → statement M
 draw-spec =
