@@ -38,11 +38,11 @@ module _ {s : Sheet} (S : Sound s) where
 
   -- ---- the drawing's points are the map's
 
-  edge-low : (k : ℕ) → k < s .edges → edgeOf D k .low ≡ row s (vertex s (tailDart k))
+  pub edge-low : (k : ℕ) → k < s .edges → edgeOf D k .low ≡ row s (vertex s (tailDart k))
   unfolding edgeSegment
   edge-low k h = ap (λ z. z .low) (edge-entry s k h) ∙ ap (row s) (sym (dart-vertex s true k))
 
-  edge-high : (k : ℕ) → k < s .edges → edgeOf D k .high ≡ row s (vertex s (opposite (tailDart k)))
+  pub edge-high : (k : ℕ) → k < s .edges → edgeOf D k .high ≡ row s (vertex s (opposite (tailDart k)))
   unfolding edgeSegment
   edge-high k h = ap (λ z. z .high) (edge-entry s k h) ∙ ap (row s) (sym (ap (vertex s) (dart-opposite true k) ∙ dart-vertex s false k))
 

@@ -5,6 +5,7 @@ pub mod Sides
 pub mod Laid
 pub mod Unique
 pub mod Contact
+pub mod Neighbours
 pub mod Rings
 pub mod Order
 pub mod Correct

@@ -72,7 +72,7 @@ module _ {s : Sheet} (S : Sound s) where
 
   -- ---- where a bar ends
 
-  last-is : (v : ℕ) → v < s .vertices → vertexOf D v .last ≡ lastColumn s v
+  pub last-is : (v : ℕ) → v < s .vertices → vertexOf D v .last ≡ lastColumn s v
   unfolding vertexSegment
   last-is v h = ap (λ z. z .last) (vertex-entry s v h)
 

@@ -76,6 +76,17 @@ abbrev pub One-Face-Law : Type 0
 One-Face-Law = (s : Sheet) → Sound s → (face : ℕ → ℕ) (f : ℕ) → Faces s face f → (v k l : ℕ)
     → Rightmost s (drawingOf s) tail v k → Rightmost s (drawingOf s) head v l → rightFace face k ≡ rightFace face l
 
--- Of a sound sheet it leaves no choice.
+-- wire k is the right neighbour of bar v: one column further the bar would be on it
+pub record Neighbour (s : Sheet) (D : Drawing) (v k : ℕ) : Type 0 where
+  pub inside : k < s .edges
+  pub next-column : edgeOf D k .column ≡ vertexOf D v .last + 1
+  pub low : edgeOf D k .low ≤ vertexOf D v .row
+  pub high : vertexOf D v .row ≤ edgeOf D k .high
+
+-- A bar is drawn up to its right neighbour, for every bar but 0 and 1.
+abbrev pub Neighbour-Law : Type 0
+Neighbour-Law = (s : Sheet) → Sound s → (v : ℕ) → v < s .vertices → v ≢ 0 → v ≢ 1 → (k : ℕ) × Neighbour s (drawingOf s) v k
+
+-- Of a sound sheet what is laid down leaves no choice.
 abbrev pub Laid-Law : Type 0
 Laid-Law = (s : Sheet) → Sound s → (D : Drawing) → Laid s D ↔ D ≡ drawingOf s

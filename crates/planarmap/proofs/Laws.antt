@@ -4,7 +4,9 @@ use mathlib.Core.Bool.{Bool, true, false, not, Bool·beq, Bool·not-not}
 use mathlib.Core.Logic.{_≢_}
 use Prim.Native.Nat.{ℕ, zero, suc, _-_, _≤_, _<_}
 use native.Mathlib.Omega.{arith}
-use Rattle.counting.proofs.Iterate.{Turn, turn-between, total, total-bounds, clash}
+use Rattle.counting.specs.Orbits.{iter}
+use Rattle.counting.proofs.Iterate.{Turn, turn-between, iter-keeps, total, total-bounds, clash}
+use Rattle.counting.proofs.Reach.{returns}
 use Rattle.planarmap.specs.Map.{Map, Bipolar, walk}
 use Rattle.planarmap.specs.Corners.{Corner}
 
@@ -89,6 +91,12 @@ module _ {M : Map} (B : Bipolar M) where
   turn-at test b {v} {d} {e} D E p q =
       let (i, there) = B .ring (D .0) (E .0) (D .1 ∙ sym (E .1)) in
       turn-between (M .next) test b (At M v) at-next i d D p (ap test there ∙ q)
+
+  -- each dart has one before it
+  pub previous : {d : ℕ} → d < M .darts → (p : ℕ) × At M (M .vertex d) p × (M .next p ≡ d)
+  previous {d} h =
+      let (i, _, e) = returns (B .rotation) d h in
+      (iter (M .next) i d, iter-keeps (M .next) (At M (M .vertex d)) at-next i d (h, refl), e)
 
   -- ---- rows
 

@@ -10,4 +10,5 @@ pub mod Spans
 pub mod Points
 pub mod Rotation
 pub mod Sides
+pub mod Neighbours
 pub mod Example

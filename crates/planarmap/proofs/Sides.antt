@@ -4,14 +4,12 @@ use mathlib.Core.Bool.{Bool, true, false, cond}
 use Prim.Native.Nat.{ℕ, _≤_, _<_}
 use native.Mathlib.Decide.{decLe}
 use native.Mathlib.Omega.{arith}
-use Rattle.counting.specs.Orbits.{iter}
-use Rattle.counting.proofs.Iterate.{by-bool, iter-keeps}
-use Rattle.counting.proofs.Reach.{returns}
+use Rattle.counting.proofs.Iterate.{by-bool}
 use Rattle.planarmap.specs.Map.{Map, Bipolar, Plane}
 use Rattle.planarmap.specs.Corners.{Left, Right, cornerFace}
 use Rattle.planarmap.specs.Columns.{ColumnLaws}
 use Rattle.planarmap.specs.Contact.{edgeColumn, rightFace, Rightmost, RightSide}
-use Rattle.planarmap.proofs.Laws.{next-below, face-next}
+use Rattle.planarmap.proofs.Laws.{next-below, face-next, previous}
 use Rattle.planarmap.proofs.Contact.{leftAt, rightAt}
 use Rattle.planarmap.proofs.Spans.{column-of, right-span}
 use Rattle.planarmap.proofs.Rotation.{Dart, one-dart}
@@ -112,12 +110,6 @@ module _ {M : Map} (P : Plane M) {column : ℕ → ℕ} (L : ColumnLaws M column
 
   pub sink-first : (d : ℕ) × (d < M .darts) × (M .vertex d ≡ 1) × (edgeColumn M column d ≡ 0)
   sink-first =
-      let h = B .opposite-below (B .root-below) in
-      let (i, _, e) = returns (B .rotation) (M .opposite (M .root)) h in
-      let d = iter (M .next) i (M .opposite (M .root)) in
-      let below = iter-below i in
-      let at-1 : M .vertex d ≡ 1 = sym (B .next-vertex below) ∙ ap (M .vertex) e ∙ B .root-head in
-      (d, below, at-1, column-of M column false d (B .sink below at-1) ∙ ap column (sym (face-next B below) ∙ ap (M .face) e) ∙ L .first)
-    where
-      iter-below : (i : ℕ) → iter (M .next) i (M .opposite (M .root)) < M .darts
-      iter-below i = iter-keeps (M .next) (λ d. d < M .darts) (λ d. next-below B) i (M .opposite (M .root)) (B .opposite-below (B .root-below))
+      let (d, (h, e), q) = previous B (B .opposite-below (B .root-below)) in
+      let at-1 : M .vertex d ≡ 1 = e ∙ B .root-head in
+      (d, h, at-1, column-of M column false d (B .sink h at-1) ∙ ap column (sym (face-next B h) ∙ ap (M .face) q) ∙ L .first)

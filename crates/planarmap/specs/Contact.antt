@@ -70,6 +70,13 @@ pub record RightSide (M : Map) (column : ℕ → ℕ) (k : ℕ) : Type 0 where
   pub one-face : (b : Bool) (d : ℕ) → Rightmost M column (M .vertex k) b d → rightFace M d ≡ cornerFace M k
   pub greatest : (d : ℕ) → d < M .darts → M .vertex d ≡ M .vertex k → column (rightFace M d) ≤ column (cornerFace M k)
 
+-- an edge stands to the right of a vertex with the right corner k: the corner's face is to its left, and its rows hold the vertex's
+pub record Neighbour (M : Map) (k e : ℕ) : Type 0 where
+  pub edge : Edge M e
+  pub beside : M .face e ≡ cornerFace M k
+  pub from : M .row (M .vertex e) ≤ M .row (M .vertex k)
+  pub to : M .row (M .vertex k) ≤ M .row (M .vertex (M .opposite e))
+
 -- each vertex from the least column of its edges: vertices 0 and 1 to the greatest, every other on to the column before the face to its right
 pub record Long (M : Map) (column first last : ℕ → ℕ) : Type 0 where
   pub begins : {v : ℕ} → v < M .vertices → Least M column v (first v)
