@@ -1,24 +1,22 @@
 -- The columns beside the edges of a sound sheet. Assumes nothing.
-use Prim.Native.Nat.{ℕ, _+_, _-_, _*_, _≤_, _<_}
+use Prim.Native.Nat.{ℕ, _+_, _*_, _<_}
 use mathlib.Core.Path.{_≡_, refl, ap, _∙_}
 use mathlib.Core.Logic.{_≢_, by-cases}
 use mathlib.Core.List.{List}
 use native.Mathlib.Decide.{ℕ-discrete}
 use native.Mathlib.Omega.{arith}
-use lib.Dec.{eqb}
 use lib.ListN.{getD}
 use borrow.Author.Tests.{ne-eqb}
-use Rattle.counting.proofs.Iterate.{by-bool}
+use Rattle.digraph.specs.Digraph.{Within}
 use Rattle.sheet.specs.declared.Sheet.{Sheet}
-use Rattle.clauses.specs.Darts.{tailDart, headDart}
+use Rattle.clauses.specs.Darts.{tailDart}
 use Rattle.clauses.specs.Contracts.{Ends}
 use Rattle.sheet.specs.Sound.{Sound}
 use Rattle.sheet.specs.Check.{faceTable, face, faceCount, faceFrom, faceTo, edgeTable, columnLevels, column}
-use Rattle.soundness.proofs.Plane.{plane-of}
-use Rattle.soundness.proofs.Columns.{column-law}
+use Rattle.soundness.proofs.Columns.{table-at, columns-within, column-law}
 use Rattle.drawing.specs.Draw.{edgeColumn, rightColumn}
 use Rattle.draw.specs.Contracts.{table, leadingFace, leadingFaces, columnBeside, AtLeast}
-use Rattle.draw.proofs.Filling.{table-at, table-agree}
+use Rattle.draw.proofs.Filling.{table-agree}
 use Rattle.draw.proofs.Ends.{endColumn}
 
 -- ---- the faces between which each edge leads
@@ -46,23 +44,19 @@ module _ {s : Sheet} (S : Sound s) where
   pub some : 0 < s .edges
   some = omega (arith, S .limits .edges-least)
 
-  edge-at : (g : ℕ → ℕ) (k : ℕ) → k < s .edges → getD (edgeTable g s) k 0 ≡ g k
-  unfolding edgeTable table
-  edge-at g k h = table-at g 256 0 0 (s .edges) k h
-
   -- the column of edge 0 is that of the face to which it leads
   pub last-is : getD level (getD (edgeTable (faceTo s) s) 0 0) 0 ≡ edgeColumn s 0
   unfolding faceTo edgeColumn
-  last-is = ap (column s) (edge-at (faceTo s) 0 some)
+  last-is = ap (column s) (table-at s (faceTo s) 0 some)
 
   -- and that of another edge is that of the face from which it leads
   from-column : (k : ℕ) → k < s .edges → k ≢ 0 → getD level (getD (edgeTable (faceFrom s) s) k 0) 0 ≡ edgeColumn s k
   unfolding faceFrom edgeColumn
-  from-column k h n = ap (column s) (edge-at (faceFrom s) k h ∙ rw (ne-eqb k 0 n) refl)
+  from-column k h n = ap (column s) (table-at s (faceFrom s) k h ∙ rw (ne-eqb k 0 n) refl)
 
   to-column : (k : ℕ) → k < s .edges → k ≢ 0 → getD level (getD (edgeTable (faceTo s) s) k 0) 0 ≡ rightColumn s k
   unfolding faceTo rightColumn
-  to-column k h n = ap (column s) (edge-at (faceTo s) k h ∙ rw (ne-eqb k 0 n) refl)
+  to-column k h n = ap (column s) (table-at s (faceTo s) k h ∙ rw (ne-eqb k 0 n) refl)
 
   pub columns-are : table (columnBeside level (edgeTable (faceFrom s) s) (edgeColumn s 0) 0) (s .edges) 256 0 ≡ table (edgeColumn s) (s .edges) 256 0
   unfolding columnBeside
@@ -79,26 +73,15 @@ module _ {s : Sheet} (S : Sound s) where
 
   -- ---- how many faces there are
 
-  few-faces : faceCount s ≤ 256
-  few-faces = omega (arith, S .limits .edges-most, S .limits .vertices-least, plane-of S .euler)
-
-  leading-in : (g : ℕ → ℕ) → ((k : ℕ) → k < s .edges → g k < faceCount s) → Ends 256 (s .edges) (edgeTable g s)
-  leading-in g inside = record { few = S .limits .edges-most; inside = λ k h. omega (arith, edge-at g k h, inside k h, few-faces) }
-
-  left-below : (k : ℕ) → k < s .edges → face s (tailDart k) < faceCount s
-  left-below k h = column-law S .faces .inside (tailDart k) (omega arith)
-
-  right-below : (k : ℕ) → k < s .edges → face s (headDart k) < faceCount s
-  right-below k h = column-law S .faces .inside (headDart k) (omega arith)
+  abbrev W : Within (faceCount s) (s .edges) (edgeTable (faceFrom s) s) (edgeTable (faceTo s) s)
+  W = columns-within S
 
   pub from-in : Ends 256 (s .edges) (edgeTable (faceFrom s) s)
-  unfolding faceFrom
-  from-in = leading-in (faceFrom s) (λ k h. by-bool (eqb k 0) (λ t. rw t (right-below k h)) (λ t. rw t (left-below k h)))
+  from-in = record { few = W .few-edges; inside = λ k h. omega (arith, W .from-in k h, W .few-nodes) }
 
   pub to-in : Ends 256 (s .edges) (edgeTable (faceTo s) s)
-  unfolding faceTo
-  to-in = leading-in (faceTo s) (λ k h. by-bool (eqb k 0) (λ t. rw t (left-below k h)) (λ t. rw t (right-below k h)))
+  to-in = record { few = W .few-edges; inside = λ k h. omega (arith, W .to-in k h, W .few-nodes) }
 
   pub column-small : (k : ℕ) → k < s .edges → edgeColumn s k < 256
   unfolding edgeColumn
-  column-small k h = omega (arith, column-law S .fewer (face s (tailDart k)) (left-below k h), few-faces)
+  column-small k h = omega (arith, column-law S .fewer (face s (tailDart k)) (column-law S .faces .inside (tailDart k) (omega arith)), W .few-nodes)

@@ -30,7 +30,7 @@ use Rattle.soundness.proofs.Plane.{plane-of}
 
 module _ (s : Sheet) where
   -- an edge table's entry at a wire
-  table-at : (g : ℕ → ℕ) (k : ℕ) → k < s .edges → getD (edgeTable g s) k 0 ≡ g k
+  pub table-at : (g : ℕ → ℕ) (k : ℕ) → k < s .edges → getD (edgeTable g s) k 0 ≡ g k
   unfolding edgeTable
   table-at g k h = getD-tabulated g (replicate (256 - s .edges) 0) 0 (s .edges) k h
 
@@ -87,7 +87,7 @@ module _ {s : Sheet} (S : Sound s) where
       (λ e. let (p, q) = ends-root s in rw (e, p, q) (face-below false 0 (omega arith), face-below true 0 (omega arith)))
       (λ n. let (p, q) = ends-other s k n in rw (p, q) (face-below true k h, face-below false k h))
 
-  columns-within : Within (faceCount s) (s .edges) (edgeTable (faceFrom s) s) (edgeTable (faceTo s) s)
+  pub columns-within : Within (faceCount s) (s .edges) (edgeTable (faceFrom s) s) (edgeTable (faceTo s) s)
   columns-within = record {
     few-nodes = omega (arith, S .limits .edges-most, S .limits .vertices-least, plane-of S .euler);
     few-edges = S .limits .edges-most;
