@@ -1,7 +1,7 @@
 -- A bar but 0 and 1 goes up to its right neighbour, in the drawing of a sound sheet.
 use mathlib.Core.Path.{_≡_, sym, _∙_, ap}
 use mathlib.Core.Bool.{true}
-use Prim.Native.Nat.{ℕ, _/_}
+use Prim.Native.Nat.{_/_}
 use native.Mathlib.Omega.{arith}
 use Rattle.planarmap.proofs.Corners.{has-corners}
 use Rattle.planarmap.proofs.Neighbours.{neighbour}

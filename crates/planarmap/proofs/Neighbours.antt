@@ -1,7 +1,6 @@
 -- To the right of every vertex but 0 and 1 stands an edge: on the far side of the face to its right, which goes up past the vertex's row.
 use mathlib.Core.Path.{_≡_, refl, sym, _∙_, ap}
 use mathlib.Core.Bool.{true, false}
-use mathlib.Core.Logic.{inl, inr}
 use Prim.Native.Nat.{ℕ, _≤_, _<_}
 use native.Mathlib.Decide.{decLe}
 use native.Mathlib.Omega.{arith}

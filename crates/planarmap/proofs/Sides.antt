@@ -46,29 +46,27 @@ module _ {M : Map} (P : Plane M) {column : ℕ → ℕ} (L : ColumnLaws M column
     corner-right : (b : Bool) → rightAt M column b (beside b) ≡ column (cornerFace M k)
     corner-right b = sym (face-of M column b (beside b) (corner b .kind)) ∙ ap column (corner-face b)
 
-    module _ (b : Bool) {e : ℕ} (E : Dart P L b v e) where
-      before : leftAt M column b e < column (cornerFace M k)
-      before = omega (arith, right-span P L R (E .below) (E .at-v), column-of M column b e (E .kind))
+    -- every edge stands before that face
+    before : (b : Bool) {e : ℕ} → Dart P L b v e → leftAt M column b e < column (cornerFace M k)
+    before b {e} E = omega (arith, right-span P L R (E .below) (E .at-v), column-of M column b e (E .kind))
 
-      -- the edge of no dart of the kind stands further right
+    module _ (b : Bool) {e : ℕ} (E : Dart P L b v e) where
+      -- one that stands as far right as the corner's of its kind is the corner's
+      same : leftAt M column b (beside b) ≤ leftAt M column b e → beside b ≡ e
+      same l = one-dart P L (corner b) E l (omega (arith, before b E, corner-right b))
+
+      -- and none stands further right
       no-further : leftAt M column b e ≤ leftAt M column b (beside b)
       no-further = elim (decLe (leftAt M column b e) (leftAt M column b (beside b))) [
         | yes l ↦ l
-        | no l ↦ omega (arith, ap (leftAt M column b) (one-dart P L (corner b) E (omega arith) (omega (arith, before, corner-right b))))
+        | no l ↦ omega (arith, ap (leftAt M column b) (same (omega arith)))
       ]
-
-      -- and one that stands as far right is the corner's
-      same : leftAt M column b (beside b) ≤ leftAt M column b e → beside b ≡ e
-      same l = one-dart P L (corner b) E l (omega (arith, before, corner-right b))
 
       face-no-further : rightAt M column b e ≤ column (cornerFace M k)
       face-no-further = elim (decLe (rightAt M column b e) (column (cornerFace M k))) [
         | yes l ↦ l
-        | no l ↦ omega (arith, corner-right b, ap (rightAt M column b) (one-dart P L E (corner b) no-further (omega (arith, before′))))
+        | no l ↦ omega (arith, corner-right b, ap (rightAt M column b) (one-dart P L E (corner b) no-further (omega (arith, before b (corner b)))))
       ]
-        where
-          before′ : leftAt M column b (beside b) < column (cornerFace M k)
-          before′ = omega (arith, right-span P L R (corner b .below) (corner b .at-v), column-of M column b (beside b) (corner b .kind))
 
     rightmost : (b : Bool) → Rightmost M column v b (beside b)
     rightmost b = record {
