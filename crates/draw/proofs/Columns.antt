@@ -13,7 +13,7 @@ use Rattle.clauses.specs.Darts.{tailDart}
 use Rattle.clauses.specs.Contracts.{Ends}
 use Rattle.sheet.specs.Sound.{Sound}
 use Rattle.sheet.specs.Check.{faceTable, face, faceCount, faceFrom, faceTo, edgeTable, columnLevels, column}
-use Rattle.soundness.proofs.Columns.{table-at, columns-within, column-law}
+use Rattle.soundness.proofs.Columns.{table-at, ends-root, ends-other, columns-within, column-law}
 use Rattle.drawing.specs.Draw.{edgeColumn, rightColumn}
 use Rattle.draw.specs.Contracts.{table, leadingFace, leadingFaces, columnBeside, AtLeast}
 use Rattle.draw.proofs.Filling.{table-agree}
@@ -46,17 +46,17 @@ module _ {s : Sheet} (S : Sound s) where
 
   -- the column of edge 0 is that of the face to which it leads
   pub last-is : getD level (getD (edgeTable (faceTo s) s) 0 0) 0 ≡ edgeColumn s 0
-  unfolding faceTo edgeColumn
-  last-is = ap (column s) (table-at s (faceTo s) 0 some)
+  unfolding edgeColumn
+  last-is = ap (column s) (table-at s (faceTo s) 0 some ∙ ends-root s .1)
 
   -- and that of another edge is that of the face from which it leads
   from-column : (k : ℕ) → k < s .edges → k ≢ 0 → getD level (getD (edgeTable (faceFrom s) s) k 0) 0 ≡ edgeColumn s k
-  unfolding faceFrom edgeColumn
-  from-column k h n = ap (column s) (table-at s (faceFrom s) k h ∙ rw (ne-eqb k 0 n) refl)
+  unfolding edgeColumn
+  from-column k h n = ap (column s) (table-at s (faceFrom s) k h ∙ ends-other s k n .0)
 
   to-column : (k : ℕ) → k < s .edges → k ≢ 0 → getD level (getD (edgeTable (faceTo s) s) k 0) 0 ≡ rightColumn s k
-  unfolding faceTo rightColumn
-  to-column k h n = ap (column s) (table-at s (faceTo s) k h ∙ rw (ne-eqb k 0 n) refl)
+  unfolding rightColumn
+  to-column k h n = ap (column s) (table-at s (faceTo s) k h ∙ ends-other s k n .1)
 
   pub columns-are : table (columnBeside level (edgeTable (faceFrom s) s) (edgeColumn s 0) 0) (s .edges) 256 0 ≡ table (edgeColumn s) (s .edges) 256 0
   unfolding columnBeside

@@ -9,14 +9,15 @@ use lib.Dec.{eqb}
 use borrow.Author.Tests.{ne-eqb, lt-ltb, le-ltb}
 use Rattle.planarmap.proofs.Laws.{next-below}
 use Rattle.planarmap.proofs.Corners.{has-corners}
-use Rattle.planarmap.proofs.Spans.{long-extent}
-use Rattle.planarmap.proofs.Sides.{right-side, leftmost-out, source-first, sink-first}
+use Rattle.planarmap.proofs.Spans.{column-of, long-extent}
+use Rattle.planarmap.proofs.Sides.{right-side, source-first, sink-first}
 use Rattle.clauses.specs.Darts.{tailDart, headDart, isTail}
 use Rattle.clauses.proofs.Touching.{touches-tail, touches-head}
 use Rattle.sheet.specs.declared.Sheet.{Sheet}
 use Rattle.sheet.specs.Darts.{tail, darts, vertex, next, touches}
 use Rattle.sheet.specs.Sound.{Sound}
 use Rattle.sheet.specs.Check.{face, column}
+use Rattle.soundness.specs.Maps.{mapOf}
 use Rattle.soundness.proofs.Darts.{edge-below, dart-vertex}
 use Rattle.soundness.proofs.Plane.{plane-of}
 use Rattle.soundness.proofs.Columns.{column-law}
@@ -67,7 +68,7 @@ module _ {s : Sheet} (S : Sound s) where
         omega (
           arith,
           column-at s (next s l),
-          leftmost-out (plane-of S) (laws S) A,
+          column-of (mapOf s) (column s) true (next s l) (A .second),
           long-extent (plane-of S) (laws S) (long-of S) .from-left A,
           ap (firstColumn s) p,
           long-of S .begins h .least (next s l) below at-v,

@@ -1,5 +1,5 @@
--- The drawing as 'Rows, columns and the drawing' lays it down, and C-12 the last column of a bar, with no definition that computes; and the law to the
--- one that does.
+-- The drawing as 'Rows, columns and the drawing' lays it down, and C-12 the last column of a bar, with no definition that computes; what follows of
+-- the bars; and the law to the definition that computes.
 use Prim.Native.Nat.{ℕ, _+_, _≤_, _<_}
 use mathlib.Core.Path.{_≡_}
 use mathlib.Core.Logic.{_≢_, _⊎_, _↔_}

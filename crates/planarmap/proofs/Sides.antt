@@ -1,4 +1,4 @@
--- The face to the right of a vertex: between its rightmost outgoing and its rightmost incoming edge. Where the leftmost edges of a vertex stand.
+-- The face to the right of a vertex: between its rightmost outgoing and its rightmost incoming edge. The edges of vertices 0 and 1 in the first column.
 use mathlib.Core.Path.{_≡_, refl, sym, _∙_, ap}
 use mathlib.Core.Bool.{Bool, true, false, cond}
 use Prim.Native.Nat.{ℕ, _≤_, _<_}
@@ -6,7 +6,7 @@ use native.Mathlib.Decide.{decLe}
 use native.Mathlib.Omega.{arith}
 use Rattle.counting.proofs.Iterate.{by-bool}
 use Rattle.planarmap.specs.Map.{Map, Bipolar, Plane}
-use Rattle.planarmap.specs.Corners.{Left, Right, cornerFace}
+use Rattle.planarmap.specs.Corners.{Right, cornerFace}
 use Rattle.planarmap.specs.Columns.{ColumnLaws}
 use Rattle.planarmap.specs.Contact.{edgeColumn, rightFace, Rightmost, RightSide}
 use Rattle.planarmap.proofs.Laws.{next-below, face-next, previous}
@@ -94,11 +94,7 @@ module _ {M : Map} (P : Plane M) {column : ℕ → ℕ} (L : ColumnLaws M column
         at : (b : Bool) (d : ℕ) → d < M .darts → M .vertex d ≡ v → M .out d ≡ b → column (rightFace M d) ≤ column (cornerFace M k)
         at b d h p o = omega (arith, face-of M column b d o, face-no-further b (record { below = h; at-v = p; kind = o }))
 
-  -- ---- its left side
-
-  -- a vertex with a left corner has an outgoing edge as far left as any
-  pub leftmost-out : {l : ℕ} → Left M l → edgeColumn M column (M .next l) ≡ column (cornerFace M l)
-  leftmost-out {l} A = column-of M column true (M .next l) (A .second)
+  -- ---- the first column
 
   -- vertices 0 and 1 each have an edge in the first column
   pub source-first : edgeColumn M column (M .next (M .root)) ≡ 0

@@ -46,11 +46,11 @@ module _ (s : Sheet) where
   to-lead b c (over-root p q) = right-to-left (ap (face s) (sym (dart-opposite true 0)) ∙ p) q
 
   -- the faces between which wire k leads
-  ends-root : (faceFrom s 0 ≡ rightFace (face s) 0) × (faceTo s 0 ≡ leftFace (face s) 0)
+  pub ends-root : (faceFrom s 0 ≡ rightFace (face s) 0) × (faceTo s 0 ≡ leftFace (face s) 0)
   unfolding faceFrom faceTo
   ends-root = (refl, refl)
 
-  ends-other : (k : ℕ) → k ≢ 0 → (faceFrom s k ≡ leftFace (face s) k) × (faceTo s k ≡ rightFace (face s) k)
+  pub ends-other : (k : ℕ) → k ≢ 0 → (faceFrom s k ≡ leftFace (face s) k) × (faceTo s k ≡ rightFace (face s) k)
   unfolding faceFrom faceTo
   ends-other k n = rw (ne-eqb k 0 n) (refl, refl)
 
