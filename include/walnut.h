@@ -1,4 +1,5 @@
-/* The calls of the proved library for C. Link with target/staticlib/libexports.a, which 'rt staticlib exports' writes.
+/* The calls of the proved library for C. Link with crates/exports/out/libexports.a, which 'rt lib' writes in
+ * crates/exports.
  *
  * Every call takes any values and returns; none allocates, keeps a pointer or calls back.
  * A pointer must be to as many entries as its declaration or the length after it says, also where the length is 0, and

@@ -1,10 +1,12 @@
 // What the calls answer, and the number of each answer.
+#![tactic(auto)]
+
 ghost use Rattle.std.specs.Prelude.{◌≡◌};
 ghost use Rattle.answers.specs.Answers.{refusal_number};
 ghost use Rattle.answers.specs.Refusals.{is_accepted};
 
 // What a call answers. The numbers of document 01 stand in specs/Answers.antt.
-#[derive(Drop)]
+#[derive(Clone, Copy)]
 pub enum Answer {
     Accepted,
     BadLayout,

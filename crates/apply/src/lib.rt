@@ -1,4 +1,6 @@
 // An edit that was read, applied to a sheet.
+#![tactic(auto)]
+
 ghost use Rattle.std.specs.Prelude.{◌≡◌};
 ghost use Rattle.edit.specs.Calls.{apply};
 

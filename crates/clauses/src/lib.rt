@@ -1,4 +1,6 @@
 // The clauses of soundness over the arrays of a sheet, each in time linear in them, and the darts that they speak of.
+#![tactic(auto)]
+
 ghost use Rattle.std.specs.Prelude.{◌≡◌, true, false, not, ◌&&◌, ◌*◌, ◌≤◌, ◌<◌, eqb, ltb, length};
 ghost use Rattle.counting.specs.Below.{all_below, tabulate};
 ghost use Rattle.clauses.specs.Darts.{dart_of};
@@ -7,6 +9,7 @@ ghost use Rattle.clauses.specs.Inner.{limits_of, joins_at, zero_at, unused_of, E
 use counting::{bit, wide};
 
 // Whether the counts of vertices and edges are within limits.
+#[tactic(auto, unfolding(crate::specs::Inner::limits_of))]
 pub fn within_limits(n: usize, m: usize) -> bool
     ensures { result ≡ limits_of n m }
 {

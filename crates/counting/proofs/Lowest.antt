@@ -55,7 +55,7 @@ lowest_le φ (suc n) d i h = by_cases (ℕ_discrete i n)
 
 lowest_reach : (φ : ℕ → ℕ) (n d : ℕ) → Reach φ d (lowest φ n d)
 unfolding lowest
-lowest_reach φ zero d = reach_refl d
+lowest_reach φ zero d = reach_refl φ d
 lowest_reach φ (suc n) d = by_cases (dec_le (iter φ n d) (lowest φ n d))
     (λ h. (n, sym (min-eq_left h)))
     (λ h. subst (Reach φ d) (sym (min-eq_right (omega arith))) (lowest_reach φ n d))
@@ -73,16 +73,16 @@ module _ {N : ℕ} {φ : ℕ → ℕ} (P : Perm N φ) where
 
   -- `lowest` finds one that is `low`, and keeps one that is
   lowest_low : {d : ℕ} → d < N → low φ N (lowest φ N d) ≡ true
-  lowest_low {d} h = →low φ N (lowest φ N d) (λ i l. lowest_least h (reach_trans (lowest_reach φ N d) (i, refl)))
+  lowest_low {d} h = →low φ N (lowest φ N d) (λ i l. lowest_least h (reach_trans φ (lowest_reach φ N d) (i, refl)))
 
   low_lowest : {d : ℕ} → d < N → low φ N d ≡ true → lowest φ N d ≡ d
-  low_lowest {d} h t = le_antisymm (lowest_least h (reach_refl d)) (low_least h t (lowest_reach φ N d))
+  low_lowest {d} h t = le_antisymm (lowest_least h (reach_refl φ d)) (low_least h t (lowest_reach φ N d))
 
   -- those that reach one another have one lowest
   lowest_same : {d e : ℕ} → d < N → Reach φ d e → lowest φ N d ≡ lowest φ N e
   lowest_same {d} {e} h r =
-      le_antisymm (lowest_least h (reach_trans r (lowest_reach φ N e)))
-      (lowest_least (reach_below P h r) (reach_trans (reach_sym P h r) (lowest_reach φ N d)))
+      le_antisymm (lowest_least h (reach_trans φ r (lowest_reach φ N e)))
+      (lowest_least (reach_below P h r) (reach_trans φ (reach_sym P h r) (lowest_reach φ N d)))
 
   -- so every permutation has a labelling of its orbits
   pub lowest_orbits : Orbits N φ (orbit_of φ N) (orbit_count φ N)
@@ -92,7 +92,7 @@ module _ {N : ℕ} {φ : ℕ → ℕ} (P : Perm N φ) where
     step = λ d h. ap (count (low φ N)) (sym (lowest_same h (1, refl)));
     joins = λ d e h k q.
         let same : lowest φ N d ≡ lowest φ N e = count_one_one (low φ N) (lowest φ N d) (lowest φ N e) (lowest_low h) (lowest_low k) q in
-        reach_trans (subst (Reach φ d) same (lowest_reach φ N d)) (reach_sym P k (lowest_reach φ N e));
+        reach_trans φ (subst (Reach φ d) same (lowest_reach φ N d)) (reach_sym P k (lowest_reach φ N e));
     used = λ c h. let t = count_onto (low φ N) c N h in (t.0, t.1, ap (count (low φ N)) (low_lowest t.1 t.2) ∙ t.3);
   }
 

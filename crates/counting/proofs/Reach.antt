@@ -8,15 +8,15 @@ use Rattle.counting.specs.Orbits.{Perm, iter, Reach}
 use Rattle.counting.proofs.Pigeonhole.{Apart, pigeonhole, Found, at, nowhere, find}
 use Rattle.counting.proofs.Iterate.{iter_shift, around}
 
-pub reach_refl : {φ : ℕ → ℕ} (d : ℕ) → Reach φ d d
-reach_refl d = (zero, refl)
+pub reach_refl : (φ : ℕ → ℕ) (d : ℕ) → Reach φ d d
+reach_refl φ d = (zero, refl)
 
-reach_iter : {φ : ℕ → ℕ} {d e : ℕ} → Reach φ d e → (j : ℕ) → Reach φ d (iter φ j e)
-reach_iter r zero = r
-reach_iter {φ} r (suc j) = let t = reach_iter r j in (suc t.0, ap φ t.1)
+reach_iter : (φ : ℕ → ℕ) {d e : ℕ} → Reach φ d e → (j : ℕ) → Reach φ d (iter φ j e)
+reach_iter φ r zero = r
+reach_iter φ r (suc j) = let t = reach_iter φ r j in (suc t.0, ap φ t.1)
 
-pub reach_trans : {φ : ℕ → ℕ} {d e g : ℕ} → Reach φ d e → Reach φ e g → Reach φ d g
-reach_trans {φ} {d} r (j, q) = subst (Reach φ d) q (reach_iter r j)
+pub reach_trans : (φ : ℕ → ℕ) {d e g : ℕ} → Reach φ d e → Reach φ e g → Reach φ d g
+reach_trans φ {d} r (j, q) = subst (Reach φ d) q (reach_iter φ r j)
 
 module _ {N : ℕ} {φ : ℕ → ℕ} (P : Perm N φ) where
   pub iter_below : (i d : ℕ) → d < N → iter φ i d < N
@@ -61,8 +61,8 @@ module _ {N : ℕ} {φ : ℕ → ℕ} (P : Perm N φ) where
   reach_sym {d} h (i, q) = subst (λ x. Reach φ x d) q (go i)
     where
       go : (i : ℕ) → Reach φ (iter φ i d) d
-      go zero = reach_refl d
-      go (suc i) = reach_trans (reach_back (iter φ i d) (iter_below i d h)) (go i)
+      go zero = reach_refl φ d
+      go (suc i) = reach_trans φ (reach_back (iter φ i d) (iter_below i d h)) (go i)
 
   -- what is reached is reached in fewer than N steps
   pub reach_soon : {d e : ℕ} → d < N → Reach φ d e → (i : ℕ) × (i < N) × (iter φ i d ≡ e)

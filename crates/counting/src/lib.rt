@@ -1,4 +1,6 @@
 // Finite counting, paths, permutations and their orbits; and the numbers of arrays as indices.
+#![tactic(auto)]
+
 ghost use Rattle.std.specs.Prelude.{◌≡◌, ◌<◌};
 ghost use Rattle.counting.specs.Counts.{bit};
 

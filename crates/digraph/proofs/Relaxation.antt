@@ -123,7 +123,7 @@ module _ {nodes edges : ℕ} {from to : List ℕ} (W : Within nodes edges from t
   rounds_attained (suc i) = relaxed_attained (rounds i edges from to) (rounds_attained i) edges (omega arith)
 
   -- after i rounds no path of at most i edges is longer than its end's level
-  rounds_upto : (i : ℕ) {a v k : ℕ} → k ≤ i → Path (Leads edges from to) a v k → k ≤ get_or (rounds i edges from to) v 0
+  rounds_upto : {a : ℕ} (i : ℕ) {v k : ℕ} → k ≤ i → Path (Leads edges from to) a v k → k ≤ get_or (rounds i edges from to) v 0
   unfolding rounds
   rounds_upto i l here = omega arith
   rounds_upto zero l (more p s) = absurd (omega arith)

@@ -1,4 +1,6 @@
 // Levels of the nodes of a digraph: for each the most edges on a directed path to it; or the finding of a circle.
+#![tactic(auto)]
+
 ghost use Rattle.std.specs.Prelude.{◌≡◌, true, ℕ, ◌+◌, ◌≤◌, ◌<◌, get_or, length};
 ghost use Rattle.digraph.specs.Relaxed.{within_of, higher_of, levels_of};
 ghost use Rattle.digraph.specs.Inner.{Chained};
@@ -6,7 +8,7 @@ ghost use Rattle.digraph.specs.Inner.{Waiting, Queued, Underway, Onward};
 
 use counting::{bit, wide};
 
-#[derive(Drop)]
+#[derive(Clone, Copy)]
 pub struct Layering {
     pub acyclic: bool,
     pub level: [u16; 256],
@@ -36,7 +38,7 @@ fn within(nodes: usize, edges: usize, from: &[u16; 256], to: &[u16; 256]) -> boo
 }
 
 // A list of edges for each node, by one end of the edges: the first edge at the node, and after each edge the next.
-#[derive(Drop)]
+#[derive(Clone, Copy)]
 struct Chains {
     first: [u16; 256],
     after: [u16; 256],

@@ -1,4 +1,6 @@
 // Draw: the drawing of a sound sheet, in time linear in the sheet.
+#![tactic(auto)]
+
 ghost use Rattle.std.specs.Prelude.{◌≡◌, ◌≤◌, ◌<◌, min, max, get_or};
 ghost use Rattle.clauses.specs.Inner.{Ends};
 ghost use Rattle.sheet.specs.Sound.{Sound};

@@ -77,8 +77,9 @@ greatest_of x (y ∷ l) = by_cases (dec_le (greatest (y ∷ l)) x)
 
 greatest_ge : (x : ℕ) (l : List ℕ) {z : ℕ} → Memᴰ z (x ∷ l) → z ≤ greatest (x ∷ l)
 unfolding greatest
-greatest_ge x l (Memᴰ.head e) = omega arith
+greatest_ge x [] (Memᴰ.head e) = omega arith
 greatest_ge x [] (Memᴰ.tail m) = absurd (Memᴰ.not-nil m)
+greatest_ge x (y ∷ l) (Memᴰ.head e) = omega arith
 greatest_ge x (y ∷ l) (Memᴰ.tail m) = omega (arith, greatest_ge y l m)
 
 pub greatest_extreme : Extreme (λ a b. b ≤ a) greatest

@@ -1,9 +1,11 @@
 // The drawing of a sheet.
+#![tactic(auto)]
+
 use answers::Answer;
 
 // A vertex (bar) lies in its row, from its first to its last column.
 #[repr(C)]
-#[derive(Drop)]
+#[derive(Clone, Copy)]
 pub struct VertexSegment {
     pub row: u16,
     pub first: u16,
@@ -12,7 +14,7 @@ pub struct VertexSegment {
 
 // An edge (wire) stands in its column, from its tail's row to its head's row.
 #[repr(C)]
-#[derive(Drop)]
+#[derive(Clone, Copy)]
 pub struct EdgeSegment {
     pub column: u16,
     pub low: u16,
@@ -21,7 +23,7 @@ pub struct EdgeSegment {
 
 // The drawing record; unused entries are 0.
 #[repr(C)]
-#[derive(Drop)]
+#[derive(Clone, Copy)]
 pub struct Drawing {
     pub rows: u16,
     pub columns: u16,
@@ -30,7 +32,7 @@ pub struct Drawing {
 }
 
 // What draw answers: the drawing, or a record of zeros where it refuses.
-#[derive(Drop)]
+#[derive(Clone, Copy)]
 pub struct Drawn {
     pub answer: Answer,
     pub drawing: Drawing,

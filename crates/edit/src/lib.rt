@@ -1,4 +1,6 @@
 // Edits of a sheet, as lines of text and as calls.
+#![tactic(auto)]
+
 ghost use Rattle.std.specs.Prelude.{◌≡◌};
 ghost use Rattle.answers.specs.declared.Answer.TheVariants.{Accepted};
 ghost use Rattle.edit.specs.Lines.{edit_of, edit_answer, line_length, read_edit};
@@ -8,7 +10,7 @@ use sheet::Sheet;
 
 // An edit: put in (wire), run (bar, wire, bar, wire), take out a wire, take out a bar;
 // or the refusal of a line that is not of the layout.
-#[derive(Drop)]
+#[derive(Clone, Copy)]
 pub enum Edit {
     In(u16),
     Run(u16, u16, u16, u16),
@@ -18,7 +20,7 @@ pub enum Edit {
 }
 
 // What read edit answers: acceptance or 1, the edit, and how many bytes its line took.
-#[derive(Drop)]
+#[derive(Clone, Copy)]
 pub struct EditRead {
     pub answer: Answer,
     pub edit: Edit,
@@ -26,7 +28,7 @@ pub struct EditRead {
 }
 
 // What an edit answers: the sheet afterwards, or the sheet that it got where it refuses.
-#[derive(Drop)]
+#[derive(Clone, Copy)]
 pub struct Edited {
     pub answer: Answer,
     pub sheet: Sheet,

@@ -1,4 +1,6 @@
 // The calls of the library under plain C names, for programs and tests in other languages.
+#![tactic(auto)]
+
 ghost use Rattle.std.specs.Prelude.{◌≡◌};
 ghost use Rattle.digraph.specs.Relaxed.{levels_of};
 ghost use Rattle.orbits.specs.Tables.{traced};

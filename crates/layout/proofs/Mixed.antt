@@ -36,6 +36,7 @@ pub record Parts (xs ys us : List ℕ) : Type 0 where
 
 pub mixed_parts : (xs ys us : List ℕ) → MixedEnds (xs ++ ys) us → Parts xs ys us
 mixed_parts [] ys us m = record { front = []; back = us; whole = refl; front_mixed = over; back_mixed = m }
+mixed_parts (x ∷ xs) ys [] m = elim m [ ]
 mixed_parts (x ∷ xs) ys (_ ∷ us) (kept m) =
     let p = mixed_parts xs ys us m in
     record { front = x ∷ p.front; back = p.back; whole = ap (λ l. x ∷ l) p.whole; front_mixed = kept p.front_mixed; back_mixed = p.back_mixed }
@@ -88,6 +89,7 @@ endless_separated (v ∷ w ∷ vs) = endless_append (decimal v) (44 ∷ separate
 pub mixed_endless : (xs us : List ℕ) → endless xs ≡ true → MixedEnds xs us → us ≡ xs
 unfolding endless
 mixed_endless [] us e over = refl
+mixed_endless (x ∷ xs) [] e m = elim m [ ]
 mixed_endless (x ∷ xs) (_ ∷ us) e (kept m) = go (eqb x 10) e (λ q. mixed_endless xs us q m)
   where
     go : (b : Bool) → (not b && endless xs) ≡ true → (endless xs ≡ true → us ≡ xs) → (x ∷ us) ≡ (x ∷ xs)

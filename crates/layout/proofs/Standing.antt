@@ -37,8 +37,8 @@ stands_right {s} xs ys h =
     }
 
 pub stands_append : {s : List ℕ} {at : ℕ} (xs ys : List ℕ) → Stands s at xs → Stands s (at + length xs) ys → Stands s at (xs ++ ys)
-stands_append {s} {at} [] ys h k = rw add-zero at k
-stands_append {s} {at} (x ∷ xs) ys h k = stands_cons (omega (arith, h.room)) (stands_head h) (stands_append xs ys (stands_tail h) (subst (λ (n : ℕ). Stands s n ys) (omega arith) k))
+stands_append {s = s} {at = at} [] ys h k = rw add-zero at k
+stands_append {s = s} {at = at} (x ∷ xs) ys h k = stands_cons (omega (arith, h.room)) (stands_head h) (stands_append {s = s} {at = at + 1} xs ys (stands_tail h) (subst (λ (n : ℕ). Stands s n ys) (omega arith) k))
 
 -- what a writer leaves holds what it wrote
 pub sets_holds : (d : List ℕ) (at : ℕ) (ds : List ℕ) → at + length ds ≤ length d → Stands (sets d at ds) at ds

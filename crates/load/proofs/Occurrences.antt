@@ -1,7 +1,7 @@
 -- A list of edges that are marked one after the other, each of which fits the line of a vertex, is the vertex's rotation where it is as
 -- long as the vertex has edges: each edge stands there at most once, and the sums over all edges are equal. Assumes nothing.
 use Prim.Native.Nat.{ℕ, zero, suc, ◌+◌, ◌≤◌, ◌<◌}
-use mathlib.Core.Path.{◌≡◌, refl, sym, ap, ◌∙◌}
+use mathlib.Core.Path.{◌≡◌, refl, sym, ap, ◌∙◌, subst}
 use mathlib.Core.Logic.{◌≢◌, by_cases}
 use mathlib.Core.Bool.{Bool, true, false, not, ◌&&◌, and-eq-true_iff, and-true, and-false}
 use mathlib.Core.List.{List, [], ◌∷◌}
@@ -111,7 +111,8 @@ module _ (m : ℕ) (tails heads : List ℕ) (v : ℕ) where
       let (all, once) = fit_once ws (set seen w (v + 1)) (omega (arith, length-set seen w (v + 1))) later in (
         (and-eq-true_iff (ltb w m) (all_in (λ x. ltb x m) ws)).1 (below, all),
         λ k j.
-            by_cases (ℕ_discrete k w) (λ e. rw (e, eq-eqb w w refl, here) (omega (arith, rw (free_same seen w l) at (once w (ltb-true w m below)))))
+            by_cases (ℕ_discrete k w)
+            (λ e. subst (λ x. occurrences x (w ∷ ws) ≤ bit (free seen x)) (sym e) (rw (eq-eqb w w refl, here) (omega (arith, rw (free_same seen w l) at (once w (ltb-true w m below))))))
             (λ n. rw (ne_eqb w k (λ e. n (sym e))) (omega (arith, rw (free_other seen w l k n) at (once k j)))),
       )
 

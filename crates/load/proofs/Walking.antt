@@ -25,8 +25,8 @@ use Rattle.answers.specs.declared.Answer.{Answer}
 use Rattle.answers.specs.declared.Answer.TheVariants.{BadLayout, BadRotation}
 use Rattle.load.specs.declared.lines.Step.{Step}
 use Rattle.load.specs.declared.lines.Step.TheVariants.{Next, Refused}
-use Rattle.load.specs.declared.rings.Entry.{Entry}
-use Rattle.load.specs.declared.rings.Entry.TheVariants.{Edge, Unfit, Absent}
+use Rattle.load.specs.declared.around.Entry.{Entry}
+use Rattle.load.specs.declared.around.Entry.TheVariants.{Edge, Unfit, Absent}
 use Rattle.text.specs.Keys.{around_key}
 use Rattle.load.specs.Inner.{Apart, fits_of, edge_of, marks_of, first_of, link_of, rest_at, is_listed, refusal_of, fit_from, linked_from, linked, Ringed, unringed, ringed_by, ring_end, linked_on, ring_from, RingRead}
 

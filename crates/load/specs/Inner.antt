@@ -15,8 +15,8 @@ use Rattle.load.specs.declared.lines.Count.{Count}
 use Rattle.load.specs.declared.lines.Count.TheVariants as counts
 use Rattle.load.specs.declared.lines.Step.{Step}
 use Rattle.load.specs.declared.lines.Step.TheVariants.{Next, Refused}
-use Rattle.load.specs.declared.rings.Entry.{Entry}
-use Rattle.load.specs.declared.rings.Entry.TheVariants.{Edge, Unfit, Absent}
+use Rattle.load.specs.declared.around.Entry.{Entry}
+use Rattle.load.specs.declared.around.Entry.TheVariants.{Edge, Unfit, Absent}
 use Rattle.text.specs.Keys.{around_key}
 use Rattle.load.specs.Load.{Parsed, judged, ring_lines, edge_lines}
 use Rattle.load.specs.Load.Parsed.{refused}

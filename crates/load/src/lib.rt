@@ -1,4 +1,6 @@
 // Sheets as text: load.
+#![tactic(auto)]
+
 ghost use Rattle.std.specs.Prelude.{◌≡◌, ◌≤◌};
 ghost use Rattle.load.specs.Load.{refused, empty_sheet, judged, ring_lines, edge_lines, loaded, load};
 ghost use Rattle.sheet.specs.Darts.{sheet_of};
@@ -8,11 +10,11 @@ use answers::Answer;
 use lines::{Count, Step};
 use sheet::Sheet;
 
+mod around;
 mod lines;
-mod rings;
 
 // What load answers: the sheet, and how many bytes of the text it took.
-#[derive(Drop)]
+#[derive(Clone, Copy)]
 pub struct Loaded {
     pub answer: Answer,
     pub sheet: Sheet,
@@ -78,7 +80,7 @@ fn load_rings(
     ensures { result ≡ loaded present (ring_lines n text.now (sheet_of n m tails.now heads.now no_nexts) 0 at) }
 {
     let mut nexts = [0u16; 512];
-    let step = rings::ring_lines(text, at, n, m, tails, heads, degrees, &mut nexts);
+    let step = around::ring_lines(text, at, n, m, tails, heads, degrees, &mut nexts);
     match step {
         Step::Refused(answer) => refuse(answer, present),
         Step::Next(next) => load_judged(n, m, tails, heads, &nexts, next, present),

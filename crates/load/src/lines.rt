@@ -8,14 +8,14 @@ use counting::wide;
 use text::Pair;
 
 // A count with the place after its line, or a refusal.
-#[derive(Drop)]
+#[derive(Clone, Copy)]
 pub enum Count {
     Value(usize, usize),
     Refused(Answer),
 }
 
 // The place after the lines that were read, or a refusal.
-#[derive(Drop)]
+#[derive(Clone, Copy)]
 pub enum Step {
     Next(usize),
     Refused(Answer),

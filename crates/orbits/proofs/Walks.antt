@@ -90,8 +90,8 @@ module _ {size : ℕ} {φ : ℕ → ℕ} (P : Perm size φ) (fits : size ≤ 512
       where
         go : (get_or orbit d 0 ≡ get_or orbit₀ d 0) ⊎ Reach φ s d → (get_or orbit (φ d) 0 ≡ get_or orbit₀ (φ d) 0) ⊎ Reach φ s (φ d) → get_or orbit (φ d) 0 ≡ get_or orbit d 0
         go (inl x) (inl y) = y ∙ p.step d l ∙ sym x
-        go (inl x) (inr r) = new_all (φ d) r ∙ sym (new_all d (reach_trans r (reach_sym P l (1, refl))))
-        go (inr r) k = new_all (φ d) (reach_trans r (1, refl)) ∙ sym (new_all d r)
+        go (inl x) (inr r) = new_all (φ d) r ∙ sym (new_all d (reach_trans φ r (reach_sym P l (1, refl))))
+        go (inr r) k = new_all (φ d) (reach_trans φ r (1, refl)) ∙ sym (new_all d r)
 
     joined : (a b : ℕ) → a < size → b < size → get_or orbit a 0 < f + 1 → get_or orbit a 0 ≡ get_or orbit b 0 → Reach φ a b
     joined a b k l g q = go (w.kind a) (w.kind b)
@@ -104,7 +104,7 @@ module _ {size : ℕ} {φ : ℕ → ℕ} (P : Perm size φ) (fits : size ≤ 512
         go (inl x) (inl y) = p.joins a b k l (omega (arith, not_f a k)) (sym x ∙ q ∙ y)
         go (inl x) (inr r) = absurd (not_f a k (sym x ∙ q ∙ new_all b r))
         go (inr r) (inl y) = absurd (not_f b l (sym y ∙ sym q ∙ new_all a r))
-        go (inr r) (inr t) = reach_trans (reach_sym P h r) t
+        go (inr r) (inr t) = reach_trans φ (reach_sym P h r) t
 
     -- every element below s has a lower number
     lower : (d : ℕ) → d < s → get_or orbit d 0 < f
@@ -124,8 +124,8 @@ module _ {size : ℕ} {φ : ℕ → ℕ} (P : Perm size φ) (fits : size ≤ 512
       past = λ d l. ⊎_elim (λ e. e ∙ p.past d l) (λ r. absurd (omega (arith, reach_below P h r))) (w.kind d);
       few = omega (arith, p.few);
       kind = λ d l. ⊎_elim (λ e. ⊎_elim (λ k. inl (e ∙ k)) (λ k. inr (omega arith)) (p.kind d l)) (λ r. inr (omega (arith, new_all d r))) (w.kind d);
-      done = below_more _ _ (λ d l. omega (arith, lower d l)) (omega (arith, new_all s (reach_refl s)));
+      done = below_more _ _ (λ d l. omega (arith, lower d l)) (omega (arith, new_all s (reach_refl φ s)));
       step = step_on;
       joins = joined;
-      lead = below_more _ _ (λ c l. old_lead c l (p.lead c l)) (record { first = s; inside = h; has = new_all s (reach_refl s); least = lower });
+      lead = below_more _ _ (λ c l. old_lead c l (p.lead c l)) (record { first = s; inside = h; has = new_all s (reach_refl φ s); least = lower });
     }

@@ -1,11 +1,13 @@
 // The orbits of a permutation of numbers that is given as a table.
+#![tactic(auto)]
+
 ghost use Rattle.std.specs.Prelude.{◌≡◌, ◌<◌, ◌≤◌};
 ghost use Rattle.orbits.specs.Tables.{unnumbered_below, traced};
 
 use counting::wide;
 
 // The number of each element's orbit, and how many orbits there are.
-#[derive(Drop)]
+#[derive(Clone, Copy)]
 pub struct Traced {
     pub count: usize,
     pub orbit: [u16; 512],

@@ -1,8 +1,13 @@
 // The program `plate`: reads standard input, and writes the output for it to standard output.
-ghost use Rattle.std.specs.Prelude.{◌≡◌, length};
-ghost use Rattle.io.specs.Counts.{IsPrefixLen};
+#![tactic(auto)]
 
-use libc::{STDIN_FILENO, STDOUT_FILENO};
+ghost use Rattle.std.specs.Prelude.{◌≡◌, ◌<◌, ◌≤◌, true, false, length, take, IfSome};
+ghost use Rattle.std.specs.Counts.{IsPrefixLen};
+ghost use Rattle.std.specs.Io.KnownBytes.{Appends, Consumes, IsAtEnd};
+ghost use Rattle.program.specs.Program.{plate_output};
+ghost use Rattle.plate.specs.Streams.{AppendsFront};
+
+use std::io::{Read, Write};
 
 // What was read: how many bytes, and whether a read failed.
 #[derive(Drop)]
@@ -25,24 +30,24 @@ fn output_buffer() -> [u8; 187031]
     [0; 187031]
 }
 
-// Reads standard input until the buffer is full, the input ends or a read fails.
-fn read_input(input: &mut [u8]) -> Input
-    ensures { IsPrefixLen result.count input.new }
+// Reads until the buffer is full, the input ends or a read fails.
+fn read_input<R: Read>(reader: &mut R, input: &mut [u8]) -> Input
+    ensures in_bounds { IsPrefixLen result.count input.new }
+    ensures bytes { Consumes (R.remaining reader.old) (R.remaining reader.new) (take result.count input.new) }
+    ensures all { result.failed ≡ false → result.count < length input.new → IsAtEnd (R.remaining reader.new) }
 {
     let mut at = 0;
     while at < input.len() {
-        let got = libc::read(STDIN_FILENO, &mut input[at..]);
-        if got < 0 {
-            return Input {
-                failed: true,
-                count: at,
-            };
+        match reader.read(&mut input[at..]) {
+            Ok(0) => break,
+            Ok(more) => at += more,
+            Err(_) => {
+                return Input {
+                    failed: true,
+                    count: at,
+                };
+            }
         }
-        let more = io::count(got, &input[at..]);
-        if more == 0 {
-            break;
-        }
-        at += more;
     }
     Input {
         failed: false,
@@ -50,21 +55,47 @@ fn read_input(input: &mut [u8]) -> Input
     }
 }
 
-// Writes the output for an input. Where standard output takes no more, the rest is not written.
-fn answer(input: &[u8]) {
+// Writes until a write fails or takes nothing, and returns how many bytes were written.
+fn write_bytes<W: Write>(writer: &mut W, bytes: &[u8]) -> usize
+    ensures in_bounds { IsPrefixLen result bytes.now }
+    ensures written { Appends (W.contents writer.old) (W.contents writer.new) (take result bytes.now) }
+{
+    let mut done = 0;
+    while done < bytes.len() {
+        match writer.write(&bytes[done..]) {
+            Ok(0) => break,
+            Ok(more) => done += more,
+            Err(_) => break,
+        }
+    }
+    done
+}
+
+// Writes the output for an input, and tells whether all of it was written. Where the writer takes no more, the rest is not written.
+fn answer<W: Write>(writer: &mut W, input: &[u8]) -> bool
+    ensures front { AppendsFront (W.contents writer.old) (W.contents writer.new) (plate_output input.now) }
+    ensures whole { result ≡ true → Appends (W.contents writer.old) (W.contents writer.new) (plate_output input.now) }
+{
     let mut output = output_buffer();
     let written = program::plate(input, &mut output);
     let count = written.count;
-    io::write_all(STDOUT_FILENO, &output[..count]);
+    write_bytes(writer, &output[..count]) == count
 }
 
-// Where a read fails, nothing is written.
-fn main() {
+// Reads an input and writes the output for it, and tells whether all was read and written. Where a read fails, nothing is written.
+fn run<R: Read, W: Write>(reader: &mut R, writer: &mut W) -> bool
+    ensures front { IfSome (R.remaining reader.old) (λ input. AppendsFront (W.contents writer.old) (W.contents writer.new) (plate_output input)) }
+    ensures whole { result ≡ true → IfSome (R.remaining reader.old) (λ input. Appends (W.contents writer.old) (W.contents writer.new) (plate_output input)) }
+{
     let mut input = input_buffer();
-    let read = read_input(&mut input);
+    let read = read_input(reader, &mut input);
     if read.failed {
-        return;
+        return false;
     }
     let count = read.count;
-    answer(&input[..count]);
+    answer(writer, &input[..count])
+}
+
+fn main(rt: HostRuntime) {
+    run(&mut rt.stdin(), &mut rt.stdout());
 }

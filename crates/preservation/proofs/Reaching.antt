@@ -1,7 +1,7 @@
 -- The marks of a directed search: a bar is marked exactly where a path leads to it. Assumes nothing.
 use Prim.Native.Nat.{ℕ, zero, suc, ◌+◌, ◌≤◌, ◌<◌}
 use mathlib.Core.Path.{◌≡◌, refl, sym, ◌∙◌}
-use mathlib.Core.Logic.{◌≢◌, by_cases}
+use mathlib.Core.Logic.{by_cases}
 use mathlib.Core.Bool.{Bool, true, false, cond, false≢true}
 use mathlib.Core.List.{List}
 use native.Mathlib.Decide.{ℕ_discrete}

@@ -22,7 +22,7 @@ use Rattle.sheet.specs.declared.Sheet.{Sheet}
 use Rattle.clauses.specs.Darts.{tail_dart, head_dart, is_tail}
 use Rattle.sheet.specs.Darts.{Sized, tail, head, darts, vertex, next}
 use Rattle.sheet.specs.Sound.{Unused, Sound}
-use Rattle.sheet.specs.Check.{sound, row}
+use Rattle.sheet.specs.Check.{sound}
 use Rattle.soundness.specs.Maps.{map_with, map_of}
 use Rattle.soundness.proofs.Darts.{dart, dart_kind, dart_below, each_dart, by_dart, dart_opposite, dart_vertex}
 use Rattle.soundness.proofs.Plane.{plane_of}

@@ -1,1 +1,2 @@
 // What the edits keep: theory, with no functions.
+#![tactic(auto)]

@@ -38,3 +38,6 @@ module _ (s : Sheet) (k : ℕ) where
           pub accepted : s.edges ≢ 256 → Accepted ≡ put_in_answer s k
           unfolding put_in_answer first
           accepted e = rw (S, lt-leb s.edges k h, ne_eqb k 0 n, ne_eqb s.vertices 128 v, ne_eqb s.edges 256 e) refl
+
+-- a law for each answer
+pub ruleset answers = (not_sound, not_in_sheet, is_root, no_vertex_left, no_edge_left, accepted)

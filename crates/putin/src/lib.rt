@@ -1,4 +1,6 @@
 // Put in.
+#![tactic(auto)]
+
 ghost use Rattle.std.specs.Prelude.{◌≡◌, ◌<◌};
 ghost use Rattle.edit.specs.Changes.{put_in};
 ghost use Rattle.edit.specs.Calls.{put_in_answer, put_in_call};
@@ -33,6 +35,7 @@ fn split_edge(s: Sheet, k: usize) -> Sheet
 }
 
 // What put in refuses, in order.
+#[tactic(auto, using(crate::proofs::PutIn::answers))]
 fn put_in_answer(s: Sheet, k: usize) -> Answer
     ensures { result ≡ put_in_answer s k }
 {

@@ -1,4 +1,6 @@
 // A list of calls from the fresh sheet: what each answers, and the drawing of the sheet that they leave.
+#![tactic(auto)]
+
 ghost use Rattle.std.specs.Prelude.{◌≡◌, ◌<◌, min};
 ghost use Rattle.std.proofs.Math.Seq.{slice};
 ghost use Rattle.load.specs.Load.{load};
@@ -14,7 +16,7 @@ use load::Loaded;
 use sheet::Sheet;
 
 // What a call answers: 0 or its refusal number, the sheet that it returns, and the bytes that it took.
-#[derive(Drop)]
+#[derive(Clone, Copy)]
 struct Reply {
     number: usize,
     sheet: Sheet,
@@ -54,6 +56,7 @@ fn of_edit(e: Edited) -> Reply
 const NO_EDGE: usize = 18446744073709551615;
 
 // One call by its kind: 0 in, 1 run, 2 out, 3 off, 4 load; any other is refused 10.
+#[tactic(auto, unfolding(crate::specs::Encoded::call_by, demand::specs::Calls::outcome))]
 fn step(kind: usize, a: usize, p: usize, b: usize, q: usize, text: &[u8], s: Sheet) -> Reply
     ensures { result ≡ reply_of (outcome s (call_by kind a p b q text.now)) }
 {

@@ -200,7 +200,7 @@ module _ {n : ℕ} {at nexts held : List ℕ} (on : (d : ℕ) → d < n → Cove
   covered_all = record {
     permuted = permuted;
     stays = λ d l. (on d l).stays;
-    joined = λ d e i j q. reach_trans (reach_sym permuted (on d i).home (on d i).from) (rw (← q) at (on e j).from);
+    joined = λ d e i j q. reach_trans (entries nexts) {d = d} (reach_sym permuted (on d i).home (on d i).from) (rw (← q) at (on e j).from);
   }
 
 -- ---- the same by the definitions that compute

@@ -1,5 +1,7 @@
 // The rings and the levels in one pass: whether the next darts of each vertex form one ring of exactly its darts, and the level of each
 // vertex. The vertices are taken in topological order, and the ring of each is walked once.
+#![tactic(auto)]
+
 ghost use Rattle.std.specs.Prelude.{◌≡◌, true, false, ◌+◌, ◌-◌, ◌*◌, ◌≤◌, ◌<◌, max};
 ghost use Rattle.clauses.specs.Inner.{Ends};
 ghost use Rattle.rings.specs.Inner.{head_of, Readable, Held, Degrees, OneRingEach, Stepped, Underway, PassedOn, ring_levels};
@@ -63,7 +65,7 @@ fn pass_dart(
 }
 
 // What a walk finds: whether the darts that it should pass form rings, and the queue's new end.
-#[derive(Drop)]
+#[derive(Clone, Copy)]
 struct Passed {
     rings: bool,
     end: usize,

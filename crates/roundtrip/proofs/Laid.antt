@@ -98,4 +98,4 @@ module _ (s : Sheet) (v : ℕ) (wires : List ℕ) (L : Laid s v s.nexts wires) w
     }
       where
         one' : {d e : ℕ} → (i : ℕ) × (i < length wires) × (end i ≡ d) → (j : ℕ) × (j < length wires) × (end j ≡ e) → Reach (next s) d e
-        one' (i, h, p) (j, k, q) = reach_trans (subst (λ d. Reach (next s) d (end 0)) p (to_first i h)) (j, steps j (omega arith) ∙ q)
+        one' (i, h, p) (j, k, q) = reach_trans (next s) (subst (λ d. Reach (next s) d (end 0)) p (to_first i h)) (j, steps j (omega arith) ∙ q)

@@ -146,8 +146,8 @@ module _ (s : Sheet) (z : Sized s) (S : Sound s) (ring : ℕ → List ℕ) (rota
       let third = mixed_parts (bars ++ wires) edges last.front last.front_mixed in
       let second = mixed_parts bars wires third.front third.front_mixed in
       let whole : Stands text 0 (last.front ++ last.back) = subst (Stands text 0) last.whole H in
-      let before-rings : Stands text 0 (third.front ++ third.back) = subst (Stands text 0) third.whole (stands_left last.front last.back whole) in
-      let counts : Stands text 0 (second.front ++ second.back) = subst (Stands text 0) second.whole (stands_left third.front third.back before-rings) in
+      let before_rings : Stands text 0 (third.front ++ third.back) = subst (Stands text 0) third.whole (stands_left last.front last.back whole) in
+      let counts : Stands text 0 (second.front ++ second.back) = subst (Stands text 0) second.whole (stands_left third.front third.back before_rings) in
       let first_two : length third.front ≡ length second.front + length second.back = ap length second.whole ∙ length-append second.front second.back in
       let first_three : length last.front ≡ length third.front + length third.back = ap length third.whole ∙ length-append third.front third.back in
       count_step (line_at bars_key text 0) s.vertices (0 + length second.front) 128 _
@@ -156,7 +156,7 @@ module _ (s : Sheet) (z : Sized s) (S : Sound s) (ring : ℕ → List ℕ) (rota
       ∙ count_step (line_at wires_key text (0 + length second.front)) s.edges (0 + length second.front + length second.back) 256 _
       (mixed_read wires_key text (s.edges ∷ []) second.back (0 + length second.front) refl (one_number s.edges (omega (arith, S.limits.edges_most))) second.back_mixed (stands_right second.front second.back counts))
       S.limits.edges_least S.limits.edges_most
-      ∙ edges_back text (0 + length third.front) third.back (mixed_joined (edge_text s) s.edges third.back third.back_mixed) (stands_right third.front third.back before-rings)
+      ∙ edges_back text (0 + length third.front) third.back (mixed_joined (edge_text s) s.edges third.back third.back_mixed) (stands_right third.front third.back before_rings)
       s.edges (zeros 256) (zeros 256) 0 (0 + length second.front + length second.back) (omega arith) (omega (arith, first_two)) (filled_none z.tails) (filled_none z.heads)
       ∙ rings_back text (0 + length last.front) last.back (mixed_joined (ring_text ring) s.vertices last.back last.back_mixed) (stands_right last.front last.back whole)
       s.vertices (zeros 512) 0 (0 + length third.front + length third.back) (omega arith) (omega (arith, first_three)) placed_none

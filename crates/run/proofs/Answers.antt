@@ -168,3 +168,6 @@ given s a p b q z e =
       q_in = not_at_most s.edges q jq;
       room = omega (arith, S.limits.edges_most, other_number s.edges 256 o.0);
     }
+
+-- a law for each answer before the two corners are looked at, and what the check of soundness found
+pub ruleset answers = (not_sound, no_start, no_end, no_first, no_second, found_sound, found_faces, found_rows)

@@ -1,4 +1,6 @@
 // Run: an edge more, between two corners of one face.
+#![tactic(auto)]
+
 ghost use Rattle.std.specs.Prelude.{◌≡◌, ◌<◌, get_or};
 ghost use Rattle.clauses.specs.Darts.{opposite, touches_of};
 ghost use Rattle.sheet.specs.Check.{row_levels};
@@ -91,6 +93,7 @@ fn add_edge(s: Sheet, a: usize, p: usize, b: usize, q: usize) -> Sheet
 }
 
 // What run refuses, in order.
+#[tactic(auto, using(crate::proofs::Answers::answers))]
 fn run_answer(s: Sheet, a: usize, p: usize, b: usize, q: usize) -> Answer
     ensures { result ≡ run_answer s a p b q }
 {

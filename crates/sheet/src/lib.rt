@@ -1,4 +1,6 @@
 // The sheet record, the fresh sheet, and the check of soundness, in time linear in the sheet.
+#![tactic(auto)]
+
 ghost use Rattle.std.specs.Prelude.{◌≡◌, ◌≤◌};
 ghost use Rattle.sheet.specs.Darts.{sheet_of};
 ghost use Rattle.sheet.specs.Fresh.{fresh_sheet};
@@ -10,7 +12,7 @@ use clauses::{all_join, has_poles, is_rooted, unused_zero, walks, within_limits}
 
 // A sheet by value. Edge k (document 01's wire k) goes from vertex (bar) tails[k] to heads[k]. Dart 2k (end 2k)
 // is its end at the tail, dart 2k + 1 its end at the head; nexts[d] is the next dart clockwise at the same vertex.
-#[derive(Drop)]
+#[derive(Clone, Copy)]
 pub struct Sheet {
     pub vertices: usize,
     pub edges: usize,
@@ -41,7 +43,7 @@ pub fn fresh() -> Sheet
 }
 
 // What the check finds: the answer and, where it is acceptance, the row of each vertex, the face of each dart and the number of faces.
-#[derive(Drop)]
+#[derive(Clone, Copy)]
 pub struct Findings {
     pub answer: Answer,
     pub rows: [u16; 256],

@@ -1,1 +1,2 @@
 // What a sound sheet is: theory, with no functions.
+#![tactic(auto)]

@@ -1,4 +1,6 @@
 // Changes of the rings: darts are renamed, take another's place, come in and leave.
+#![tactic(auto)]
+
 ghost use Rattle.std.specs.Prelude.{◌≡◌, map, ◌≤◌, ◌<◌, length};
 ghost use Rattle.edit.specs.Changes.{renamed, replace_dart, insert_dart, remove_dart};
 

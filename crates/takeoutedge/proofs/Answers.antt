@@ -76,3 +76,6 @@ given s k z e =
     let a = passed NotSound (not (sound s)) _ (λ q. omega arith) e in
     let b = passed NotInSheet (no_edge s k) _ (λ q. omega arith) a.1 in
     (not_at_most s.edges k b.0, few_edges s z (not-false (sound s) a.0))
+
+-- a law for each answer, and the degrees as they are counted
+pub ruleset answers = (few_edges, out_degree_law, in_degree_law, not_sound, not_in_sheet, is_root, two_edges, only_outgoing, only_incoming, accepted)

@@ -1,4 +1,6 @@
 // Take out an edge.
+#![tactic(auto)]
+
 ghost use Rattle.std.specs.Prelude.{◌≡◌, ◌≤◌, ◌<◌, eqb, get_or};
 ghost use Rattle.counting.specs.Counts.{count};
 ghost use Rattle.edit.specs.Changes.{last_edge_to, take_out_edge};
@@ -72,6 +74,7 @@ fn without_edge(s: Sheet, k: usize) -> Sheet
 }
 
 // What take out an edge refuses, in order.
+#[tactic(auto, using(crate::proofs::Answers::answers))]
 fn take_out_edge_answer(s: Sheet, k: usize) -> Answer
     ensures { result ≡ take_out_edge_answer s k }
 {

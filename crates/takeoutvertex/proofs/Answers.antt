@@ -76,3 +76,6 @@ given s v z e =
     let g = (and-eq-true_iff ins out).0 (not-false (ins && out) d.1) in
     let S = (sound_law s z).0 (not-false (sound s) a.0) in
     (not_at_most s.vertices v b.0, S.limits.vertices_most, S.limits.edges_most, eqb-true (in_degree s v) 1 g.0, eqb-true (out_degree s v) 1 g.1)
+
+-- a law for each answer
+pub ruleset answers = (not_sound, not_in_sheet, is_source, is_sink, wrong_in, wrong_out, accepted)

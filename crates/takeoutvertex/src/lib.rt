@@ -1,4 +1,6 @@
 // Take out a vertex that has one incoming and one outgoing edge.
+#![tactic(auto)]
+
 ghost use Rattle.std.specs.Prelude.{◌≡◌, ◌≤◌, ◌<◌, eqb, get_or};
 ghost use Rattle.counting.specs.Below.{lowest_below};
 ghost use Rattle.edit.specs.Changes.{last_vertex_to, take_out_vertex};
@@ -70,6 +72,7 @@ fn without_vertex(s: Sheet, v: usize) -> Sheet
 }
 
 // What take out a vertex refuses, in order.
+#[tactic(auto, using(takeoutedge::proofs::Answers::few_edges, crate::proofs::Answers::answers), unfolding(edit::specs::Calls::in_degree, edit::specs::Calls::out_degree))]
 fn take_out_vertex_answer(s: Sheet, v: usize) -> Answer
     ensures { result ≡ take_out_vertex_answer s v }
 {

@@ -133,3 +133,6 @@ number_ahead s at v next e =
     (λ a ea la h. (omega arith, omega (arith, digit_inside s at ea la)))
     (λ a ea la b eb lb n h. (omega arith, omega (arith, digit_inside s (at + 1) eb lb)))
     (λ a ea la b eb lb n c ec lc h. (omega arith, omega (arith, digit_inside s (at + 2) ec lc)))
+
+-- a law for each answer of number_at
+pub ruleset answers = (digit_inside, no_digit, one_digit, zero_first, two_digits, three_digits, four_digits)

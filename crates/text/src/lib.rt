@@ -1,10 +1,12 @@
 // Numbers, keys and line ends of the text layouts, read from bytes.
+#![tactic(auto)]
+
 ghost use Rattle.std.specs.Prelude.{◌≡◌, cond, length, get_or, drop, set};
 ghost use Rattle.text.specs.Reading.{digit_at, number_at, starts_with, line_end_at, unlisted, before, numbers_at, closed, line_at, last_line_at, numbers_of};
 ghost use Rattle.text.specs.Shapes.{pair_of};
 
 // A number that stands at a place of the text, with the place after it, or none.
-#[derive(Drop)]
+#[derive(Clone, Copy)]
 pub enum Number {
     Value(u16, usize),
     Missing,
@@ -12,7 +14,7 @@ pub enum Number {
 
 // The numbers of a line, or none where the line is not of the layout: how many there are,
 // the first four of them (0 where there are fewer), and the place after the line.
-#[derive(Drop)]
+#[derive(Clone, Copy)]
 pub struct Numbers {
     pub found: bool,
     pub count: usize,
@@ -21,7 +23,7 @@ pub struct Numbers {
 }
 
 // The two numbers of a line that has two, with the place after the line; or a line of another layout.
-#[derive(Drop)]
+#[derive(Clone, Copy)]
 pub enum Pair {
     Two(u16, u16, usize),
     Other,
@@ -52,6 +54,7 @@ fn digit(s: &[u8], at: usize) -> u16
 }
 
 // The number at a place: one to three digits, no leading zero except 0 itself.
+#[tactic(auto, using(crate::proofs::DigitLaws::answers))]
 pub fn number_at(s: &[u8], at: usize) -> Number
     ensures { result ≡ number_at s.now at }
 {

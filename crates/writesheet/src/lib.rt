@@ -1,4 +1,6 @@
 // Write sheet: the text of a sound sheet, how long it is, and how it is put into a buffer.
+#![tactic(auto)]
+
 ghost use Rattle.std.specs.Prelude.{◌≡◌, ℕ, ◌+◌, ◌≤◌, ◌<◌, leb, get_or, length, take};
 ghost use Rattle.std.proofs.lemmas.List.Edits.{sets};
 ghost use Rattle.counting.specs.Below.{join_below};
@@ -13,7 +15,7 @@ use counting::wide;
 use sheet::Sheet;
 
 // What a writer answers: how many bytes of the lent buffer it filled.
-#[derive(Drop)]
+#[derive(Clone, Copy)]
 pub struct Written {
     pub answer: Answer,
     pub count: usize,

@@ -1,5 +1,5 @@
 //! The program `plate` itself, run as a process, against the outputs in examples/ and against the reference, byte for
-//! byte. The program is target/bin/plate of the repository, or the file that the environment names in PLATE.
+//! byte. The program is crates/plate/out/plate of the repository, or the file that the environment names in PLATE.
 
 use reference::generate::{inputs_of_every_size, mixed_ends, special_inputs, variation, Inputs, Random};
 use std::fs::{self, File};
@@ -13,10 +13,10 @@ fn repository() -> PathBuf {
 }
 
 fn start(input: Stdio) -> Child {
-    let program = std::env::var_os("PLATE").map_or_else(|| repository().join("target/bin/plate"), PathBuf::from);
+    let program = std::env::var_os("PLATE").map_or_else(|| repository().join("crates/plate/out/plate"), PathBuf::from);
     let mut command = Command::new(&program);
     command.stdin(input).stdout(Stdio::piped()).stderr(Stdio::piped());
-    command.spawn().unwrap_or_else(|error| panic!("{}: {error}; 'rt check plate' builds it", program.display()))
+    command.spawn().unwrap_or_else(|error| panic!("{}: {error}; 'rt run' in crates/plate builds it", program.display()))
 }
 
 /// Writes to the program; it may end before it has read all.

@@ -1,0 +1,9 @@
+use mathlib.Core.Path.{◌∙◌, ap}
+use Rattle.load.specs.Load.{load}
+use Rattle.replay.proofs.Parts.{part_is}
+use Rattle.replay.proofs.load_part.Goals as goal
+
+pub returns : goal.returns
+returns c =
+    let args = c.args in
+    c.load.ensures ∙ ap (λ l. load l args.s) (part_is args.text.now args.start args.end _ _ c.lesser-to.ensures c.lesser-from.ensures)

@@ -1,0 +1,12 @@
+use Prim.Native.Nat.{◌-◌, ◌≤◌}
+use mathlib.Core.Path.{◌≡◌}
+use lib.ListN.{length}
+use Rattle.counting.specs.Below.{join_below}
+use Rattle.writedrawing.specs.Inner.{edge_text}
+use Rattle.writedrawing.proofs.edges_length.Given as goal
+
+abbrev pub invariant-loop-k : goal.invariant-loop-k
+invariant-loop-k l = (l.k ≤ l.m) × (l.sum ≡ length (join_below (edge_text l.d) l.k))
+
+abbrev pub decreases-loop-k : goal.decreases-loop-k
+decreases-loop-k l = l.m - l.k
