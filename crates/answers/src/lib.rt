@@ -30,6 +30,7 @@ pub enum Answer {
 }
 
 // The number of an answer: 0, or the refusal number.
+#[tactic(auto, unfolding(crate::specs::Answers::refusal_number))]
 pub fn refusal_number(a: Answer) -> u16
     ensures { result ≡ refusal_number a }
 {

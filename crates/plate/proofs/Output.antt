@@ -5,16 +5,13 @@ use lib.Seq.{take-append-le, take_all}
 use borrow.Author.Tests.{le-ltb, ltb-true, ltb-false}
 use lib.Dec.{ltb}
 use Rattle.std.specs.Io.KnownBytes.{Appends, Consumes, IsAtEnd}
+use Rattle.counting.proofs.Iterate.{by_bool}
 use Rattle.answers.specs.Answers.{refusal_number}
 use Rattle.answers.specs.Refusals.{first, is_accepted}
 use Rattle.writesheet.specs.Write.{written, buffer_after}
 use Rattle.program.specs.Program.{plate_output, longest_output, plate_answer, write_output, buffer_after_output}
 use Rattle.program.proofs.Cases.{too_long}
 use Rattle.plate.specs.Streams.{AppendsFront}
-
-by_bool : {X : Type 0} → (b : Bool) → (b ≡ true → X) → (b ≡ false → X) → X
-by_bool true f g = f refl
-by_bool false f g = g refl
 
 -- In a buffer that is long enough the output is what stands in front.
 pub output_in_front : (input buffer : List ℕ) → longest_output ≤ length buffer → take (write_output input buffer).count (buffer_after_output input buffer) ≡ plate_output input
