@@ -1,5 +1,5 @@
 -- The output in the program's buffer, and that of an input of which no more was read than is looked at. Assumes nothing.
-use Rattle.std.proofs.Common.{arith, Bool, true, false, ℕ, ◌+◌, ◌≤◌, ◌<◌, ◌≡◌, refl, sym, ap, ◌∙◌, List, [], ◌++◌, length, take, Option, None, Some, IfSome, append-nil}
+use Rattle.std.proofs.Common.{arith, ℕ, ◌+◌, ◌≤◌, ◌<◌, ◌≡◌, sym, ap, ◌∙◌, List, [], ◌++◌, length, take, Option, None, Some, IfSome, append-nil}
 use lib.ListN.{length-append}
 use lib.Seq.{take-append-le, take_all}
 use borrow.Author.Tests.{le-ltb, ltb-true, ltb-false}
