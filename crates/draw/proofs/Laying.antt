@@ -7,13 +7,15 @@ use lib.ListN.{get_or}
 use Rattle.digraph.specs.declared.Layering.{Layering}
 use Rattle.digraph.specs.Relaxed.{levels_of}
 use Rattle.sheet.specs.declared.Sheet.{Sheet}
+use Rattle.sheet.specs.declared.Findings.{Findings}
 use Rattle.clauses.specs.Inner.{Ends}
 use Rattle.sheet.specs.Sound.{Sound}
-use Rattle.sheet.specs.Check.{row_levels, face_table, face_count, face_from, face_to, edge_table, column_levels}
+use Rattle.sheet.specs.Check.{row_levels, face_from, face_to, edge_table, column_levels}
 use Rattle.drawing.specs.declared.Drawing.{Drawing}
 use Rattle.drawing.specs.Draw.{edge_column, drawing_of}
 use Rattle.draw.specs.Inner.{table, leading_faces, column_beside, AtLeast, drawing_from}
 use Rattle.draw.proofs.Columns.{some, from_table, to_table, last_is, columns_are, ends_are, right_of_first, from_in, to_in}
+use Rattle.draw.proofs.Outcome.{Found}
 use Rattle.draw.proofs.Ends.{end_column}
 use Rattle.draw.proofs.Segments.{small, drawing_is}
 
@@ -25,13 +27,13 @@ pub record Leveled (s : Sheet) (rows from to level : List ℕ) : Type 0 where
   pub to_are : to ≡ edge_table (face_to s) s
   pub levels_are : level ≡ (column_levels s).level
 
-pub leveled_from : {s : Sheet} {rows faces from to : List ℕ} {count : ℕ} {levels : Layering} → Sound s → rows ≡ (row_levels s).level → faces ≡ (face_table s).orbit → count ≡ face_count s
-    → from ≡ leading_faces s.edges 0 faces → to ≡ leading_faces s.edges 1 faces → levels ≡ levels_of count s.edges from to → Leveled s rows from to levels.level
+pub leveled_from : {s : Sheet} {f : Findings} {from to : List ℕ} {levels : Layering} → Found s f
+    → from ≡ leading_faces s.edges 0 f.faces → to ≡ leading_faces s.edges 1 f.faces → levels ≡ levels_of f.count s.edges from to → Leveled s f.rows from to levels.level
 unfolding column_levels
-leveled_from {s} S re fe ce e t l =
-    let from_are = e ∙ ap (leading_faces s.edges 0) fe ∙ from_table s in
-    let to_are = t ∙ ap (leading_faces s.edges 1) fe ∙ to_table s in
-    record { sound = S; rows_are = re; from_are = from_are; to_are = to_are; levels_are = ap (λ (x : Layering). x.level) l ∙ rw (ce, from_are, to_are) refl }
+leveled_from {s} F e t l =
+    let from_are = e ∙ ap (leading_faces s.edges 0) F.faces_are ∙ from_table s in
+    let to_are = t ∙ ap (leading_faces s.edges 1) F.faces_are ∙ to_table s in
+    record { sound = F.has_sound; rows_are = F.rows_are; from_are = from_are; to_are = to_are; levels_are = ap (λ (x : Layering). x.level) l ∙ rw (F.count_is, from_are, to_are) refl }
 
 module _ {s : Sheet} {rows from to level : List ℕ} (L : Leveled s rows from to level) where
   abbrev S : Sound s
@@ -46,17 +48,17 @@ module _ {s : Sheet} {rows from to level : List ℕ} (L : Leveled s rows from to
   pub to_rises : (less : ℕ) → less ≤ 1 → (0 < s.edges) × Ends 256 s.edges to × AtLeast less s.edges level to
   to_rises less l = rw (L.levels_are, L.to_are) (some S, to_in S, λ k h n. omega (arith, right_of_first S k h n))
 
-  module _ {last : ℕ} (le : last ≡ get_or level (get_or to 0 0) 0) {columns : List ℕ} (ke : columns ≡ table (column_beside level from last 0) s.edges 256 0) where
-    last_at : last ≡ edge_column s 0
-    last_at = le ∙ rw (L.levels_are, L.to_are) (last_is S)
+  module _ {face : ℕ} (fe : face ≡ get_or to 0 0) {columns : List ℕ} (ke : columns ≡ table (column_beside level from (get_or level face 0) 0) s.edges 256 0) where
+    last_at : get_or level face 0 ≡ edge_column s 0
+    last_at = rw (fe, L.levels_are, L.to_are) (last_is S)
 
     listed : columns ≡ table (edge_column s) s.edges 256 0
-    listed = ke ∙ rw (L.levels_are, L.from_are, last_at) (columns_are S)
+    listed = ke ∙ rw (last_at, L.levels_are, L.from_are) (columns_are S)
 
     pub all_small : Sound s × (get_or rows 1 0 < 256) × (get_or columns 0 0 < 256)
     all_small = let (r, k) = small S in rw (L.rows_are, listed) (S, r, k)
 
-    pub all_laid : {ends : List ℕ} → ends ≡ table (column_beside level to last 1) s.edges 256 0 → {d : Drawing} → d ≡ drawing_from s rows columns ends → d ≡ drawing_of s
+    pub all_laid : {ends : List ℕ} → ends ≡ table (column_beside level to (get_or level face 0) 1) s.edges 256 0 → {d : Drawing} → d ≡ drawing_from s rows columns ends → d ≡ drawing_of s
     all_laid {ends} ee e =
-        let ended : ends ≡ table (end_column s) s.edges 256 0 = ee ∙ rw (L.levels_are, L.to_are, last_at) (ends_are S) in
+        let ended : ends ≡ table (end_column s) s.edges 256 0 = ee ∙ rw (last_at, L.levels_are, L.to_are) (ends_are S) in
         e ∙ rw (L.rows_are, listed, ended) (drawing_is S)

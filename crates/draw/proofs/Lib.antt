@@ -4,5 +4,5 @@ pub mod Widening
 pub mod Ends
 pub mod Columns
 pub mod Segments
-pub mod Laying
 pub mod Outcome
+pub mod Laying
