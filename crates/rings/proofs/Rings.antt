@@ -254,3 +254,6 @@ module _ (n : ℕ) (at nexts : List ℕ) (fits : n ≤ 512) where
 
 pub rings_met : {n : ℕ} {at nexts held : List ℕ} → n ≤ 512 → ((d : ℕ) → d < n → Covered n at nexts held d) → rings_in n at nexts ≡ true
 rings_met {n} {at} {nexts} few on = right n at nexts few (covered_all on)
+
+pub at_small : {n : ℕ} {at : List ℕ} → Readable n at → {d v : ℕ} → d < n → v ≡ get_or at d 0 → v < 128
+at_small R {d} l e = omega (arith, e, R.at_in d l)

@@ -13,7 +13,7 @@ use lib.ListN.{get_or, set}
 use lib.Seq.{get_or-set_other, set-get_or}
 use Rattle.counting.specs.Counts.{bit, count}
 use Rattle.counting.specs.Orbits.{iter}
-use Rattle.counting.proofs.Counts.{count_without}
+use Rattle.counting.proofs.Counts.{count_le, count_without}
 use Rattle.orbits.specs.Meaning.{entries}
 use Rattle.digraph.specs.Relaxed.{higher_of}
 use Rattle.digraph.specs.Inner.{Graph, Settled}
@@ -207,6 +207,9 @@ module _ {darts : ℕ} {at held degree : List ℕ} {head : ℕ} {waiting level q
   pub end_small : end ≤ 128
   end_small = omega (arith, tail_in U.settled.progress.queued, U.placed.few)
 
+  pub dart_small : {d : ℕ} → d < darts → d < 512
+  dart_small l = omega (arith, (placed_readable U.placed).few)
+
   module _ (v : ℕ) (ev : v ≡ get_or queue head 0) where
     pub vertex_small : v < 128
     vertex_small = omega (arith, ev, U.settled.progress.queued.node head h, U.placed.few)
@@ -239,6 +242,10 @@ module _ {darts : ℕ} {at held degree : List ℕ} {head : ℕ} {waiting level q
           pub size_some : 0 < size
           size_some = omega (arith, size_is, count_without (λ d. eqb (get_or at d 0) v) darts start there (eq-eqb _ _ start_at))
 
+          -- each step puts at most one vertex in the queue
+          pub tail_small : {steps tail : ℕ} → steps ≤ size → tail ≤ end + steps → tail ≤ 1024
+          tail_small l t = omega (arith, end_small, size_is, count_le (λ d. eqb (get_or at d 0) v) darts, (placed_readable U.placed).few)
+
           -- its ring is walked
           pub ring_passed : {nexts : List ℕ} → Round darts at nexts start v size → {row : ℕ} {waiting' level' queue' : List ℕ} {tail : ℕ}
               → ((P : Placed darts at) → Settled P.graph head waiting level queue end → Here P nexts start size size head v row queue end waiting' level' queue' tail)
@@ -257,6 +264,10 @@ module _ {darts : ℕ} {at held degree : List ℕ} {head : ℕ} {waiting level q
 
 -- ---- from vertex to vertex
 
+pub still_underway : {darts : ℕ} {at nexts held degree waiting₀ level₀ queue₀ waiting level queue : List ℕ} {end head tail : ℕ} → Underway darts at held degree 0 waiting₀ level₀ queue₀ end
+    → PassedOn darts at nexts held 0 waiting₀ level₀ queue₀ end head waiting level queue tail → Underway darts at held degree head waiting level queue tail
+still_underway U P = record { placed = U.placed; settled = P.onward U.placed U.settled; held_in = U.held_in; degrees = U.degrees }
+
 pub none_yet : {darts : ℕ} {at nexts held waiting level queue : List ℕ} {end : ℕ} → PassedOn darts at nexts held 0 waiting level queue end 0 waiting level queue end
 none_yet = record { onward = λ P S. S; kept = λ i l. refl; longer = omega arith; covers = λ i d l m. absurd (omega arith) }
 
@@ -272,3 +283,6 @@ one_more {head} A h B = record {
       (λ z. B.covers i d (omega arith) m b e)
       (λ z. A.covers i d l (omega arith) b (e ∙ B.kept i (omega arith)));
 }
+
+-- what is looked at is in its array
+pub ruleset places = (vertex_small)

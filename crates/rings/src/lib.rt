@@ -13,6 +13,7 @@ use digraph::Layering;
 const NONE: u16 = 512;
 
 // A dart of each vertex that has one, and NONE at the others; and how many each has.
+#[tactic(auto, using(crate::proofs::Rings::at_small))]
 fn some_darts(darts: usize, at: &[u16; 512], degree: &mut [u16; 128]) -> [u16; 128]
     requires { Readable darts at.now × Degrees 0 at.now degree.old }
     ensures { Held darts at.now result × Degrees darts at.now degree.new }
@@ -73,6 +74,7 @@ struct Passed {
 
 // Walks round the vertex at `head` of the queue and passes the edges out of it. Its ring has all its darts and no others: it is closed after as many steps as the
 // vertex has darts, and not before.
+#[tactic(auto, using(crate::proofs::Walking::places))]
 fn pass(
     head: usize,
     darts: usize,

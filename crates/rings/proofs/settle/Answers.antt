@@ -1,21 +1,17 @@
 -- `settle` meets its contract, which is its loop's invariant at the queue's end. Assumes nothing.
 use Rattle.std.proofs.Common.{rules}
-use Prim.Native.Nat.{◌<◌}
 use mathlib.Core.Path.{◌≡◌, sym, ◌∙◌}
 use mathlib.Core.Bool.{true≢false}
 use native.Mathlib.Omega.{arith}
 use borrow.Author.Tests.{not-true, not-false}
-use Rattle.rings.specs.Inner.{Underway}
-use Rattle.rings.proofs.Walking.{head_small, none_yet, one_more}
+use Rattle.rings.proofs.Walking.{head_small, still_underway, none_yet, one_more}
 use Rattle.rings.proofs.settle.Goals as goal
 
 pub loop-head-init : goal.loop-head-init
 loop-head-init c = (none_yet, search rules)
 
 pub pass-passed-requires : goal.pass-passed-requires
-pass-passed-requires c =
-    let underway : (let a = c.args in Underway a.darts a.at.now a.held.now a.degree.now c.loop-head.head c.loop-head.waiting c.loop-head.level c.loop-head.queue c.loop-head.tail) = let u = c.requires in record { placed = u.placed; settled = c.loop-head.invariant.0.onward u.placed u.settled; held_in = u.held_in; degrees = u.degrees } in
-    (c.loop-head-test.true, underway)
+pass-passed-requires c = (c.loop-head-test.true, still_underway c.requires c.loop-head.invariant.0)
 
 pub returns-then-not-passed : goal.returns-then-not-passed
 returns-then-not-passed c =
@@ -23,16 +19,10 @@ returns-then-not-passed c =
     (λ t. absurd (true≢false (sym t ∙ f)), c.pass-passed.ensures.1)
 
 pub overflow_add-head : goal.overflow_add-head
-overflow_add-head c =
-    let underway : (let a = c.args in Underway a.darts a.at.now a.held.now a.degree.now c.loop-head.head c.loop-head.waiting c.loop-head.level c.loop-head.queue c.loop-head.tail) = let u = c.requires in record { placed = u.placed; settled = c.loop-head.invariant.0.onward u.placed u.settled; held_in = u.held_in; degrees = u.degrees } in
-    let in_head : c.loop-head.head < 128 = head_small underway c.loop-head-test.true in
-    omega (arith, in_head)
+overflow_add-head c = omega (arith, head_small (still_underway c.requires c.loop-head.invariant.0) c.loop-head-test.true)
 
 pub loop-head-smaller : goal.loop-head-smaller
-loop-head-smaller c =
-    let underway : (let a = c.args in Underway a.darts a.at.now a.held.now a.degree.now c.loop-head.head c.loop-head.waiting c.loop-head.level c.loop-head.queue c.loop-head.tail) = let u = c.requires in record { placed = u.placed; settled = c.loop-head.invariant.0.onward u.placed u.settled; held_in = u.held_in; degrees = u.degrees } in
-    let in_head : c.loop-head.head < 128 = head_small underway c.loop-head-test.true in
-    omega (arith, in_head)
+loop-head-smaller c = omega (arith, head_small (still_underway c.requires c.loop-head.invariant.0) c.loop-head-test.true)
 
 pub loop-head-preserved : goal.loop-head-preserved
 loop-head-preserved c =

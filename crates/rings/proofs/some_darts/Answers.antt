@@ -6,55 +6,21 @@ use native.Mathlib.Omega.{arith}
 use lib.Dec.{eqb}
 use lib.ListN.{get_or}
 use Rattle.counting.proofs.Counts.{count_le}
-use Rattle.rings.proofs.Rings.{held_none, held_more, degrees_more}
+use Rattle.rings.proofs.Rings.{at_small, held_none, held_more, degrees_more}
 use Rattle.rings.proofs.some_darts.Goals as goal
 
 pub loop-d-init : goal.loop-d-init
 loop-d-init c = (search rules, held_none _, c.requires.1)
 
-pub offset_bounds-at-d : goal.offset_bounds-at-d
-offset_bounds-at-d c = omega (arith, c.loop-d-test.true, c.requires.0.few)
-
-pub bounds-at-d : goal.bounds-at-d
-bounds-at-d c = omega (arith, c.loop-d-test.true, c.requires.0.few)
-
-pub overflow_cast-held : goal.overflow_cast-held
-overflow_cast-held c = omega (arith, c.loop-d-test.true, c.requires.0.few)
-
-pub offset_bounds-held-v : goal.offset_bounds-held-v
-offset_bounds-held-v c =
-    let in_v : c.wide-v.result < 128 = omega (arith, c.wide-v.ensures.0, c.requires.0.at_in c.loop-d.d c.loop-d-test.true) in
-    omega (arith, in_v)
-
-pub bounds-held-v : goal.bounds-held-v
-bounds-held-v c =
-    let in_v : c.wide-v.result < 128 = omega (arith, c.wide-v.ensures.0, c.requires.0.at_in c.loop-d.d c.loop-d-test.true) in
-    in_v
-
-pub offset_bounds-degree-v : goal.offset_bounds-degree-v
-offset_bounds-degree-v c =
-    let in_v : c.wide-v.result < 128 = omega (arith, c.wide-v.ensures.0, c.requires.0.at_in c.loop-d.d c.loop-d-test.true) in
-    omega (arith, in_v)
-
-pub bounds-degree-v : goal.bounds-degree-v
-bounds-degree-v c =
-    let in_v : c.wide-v.result < 128 = omega (arith, c.wide-v.ensures.0, c.requires.0.at_in c.loop-d.d c.loop-d-test.true) in
-    in_v
-
 pub overflow_add-degree : goal.overflow_add-degree
 overflow_add-degree c =
-    let in_v : c.wide-v.result < 128 = let at_loop = c in omega (arith, c.wide-v.ensures.0, at_loop.requires.0.at_in at_loop.loop-d.d c.loop-d-test.true) in
+    let in_v = at_small c.requires.0 c.loop-d-test.true c.wide-v.ensures.0 in
     let small : get_or c.loop-d.degree c.wide-v.result 0 + 1 < 65536 = let v = c.wide-v.result in omega (arith, c.loop-d.invariant.2.counts v in_v, count_le (λ d. eqb (get_or c.args.at.now d 0) v) c.loop-d.d, c.loop-d-test.true, c.requires.0.few) in
     record { fits = small }
 
-pub bounds-degree-v-in-loop-d : goal.bounds-degree-v-in-loop-d
-bounds-degree-v-in-loop-d c =
-    let in_v : c.wide-v.result < 128 = omega (arith, c.wide-v.ensures.0, c.requires.0.at_in c.loop-d.d c.loop-d-test.true) in
-    in_v
-
 pub loop-d-preserved : goal.loop-d-preserved
 loop-d-preserved c =
-    let in_v : c.wide-v.result < 128 = let at_loop = c in omega (arith, c.wide-v.ensures.0, at_loop.requires.0.at_in at_loop.loop-d.d c.loop-d-test.true) in
+    let in_v = at_small c.requires.0 c.loop-d-test.true c.wide-v.ensures.0 in
     (search rules, held_more c.loop-d.invariant.1 _ c.wide-v.ensures.0 in_v, degrees_more c.loop-d.invariant.2 _ c.wide-v.ensures.0 in_v)
 
 pub returns : goal.returns
