@@ -1,8 +1,7 @@
+-- `around::ring_line` meets its contract: what is left of the line is read from the place that is reached. Assumes nothing.
 use Rattle.std.proofs.Common.{rules}
-use Prim.Native.Nat.{◌≤◌, ◌<◌}
 use mathlib.Core.Path.{sym, ◌∙◌}
 use native.Mathlib.Omega.{arith}
-use lib.ListN.{length}
 use Rattle.load.proofs.Walking.{comma_inside, line_keyless, line_room, line_start, line_absent, line_unfit, dart_in, line_ahead, head_in, line_more, line_over}
 use Rattle.load.proofs.around.ring_line.Goals as goal
 
@@ -31,18 +30,17 @@ returns-in-Unfit c =
 
 pub link-head-requires : goal.link-head-requires
 link-head-requires c =
-    let dart_small : c.in-Edge.dart < 512 = dart_in _ _ _ _ _ _ _ _ _ _ _ _ _ _ _ c.loop-next.invariant _ c.edge_at-read.ensures.0 _ c.edge_at-read.ensures.1 _ _ c.in-Edge.is c.requires.0 in
+    let dart_small = dart_in _ _ _ _ _ _ _ _ _ _ _ _ _ _ _ c.loop-next.invariant _ c.edge_at-read.ensures.0 _ c.edge_at-read.ensures.1 _ _ c.in-Edge.is c.requires.0 in
     (search rules, dart_small)
 
 pub overflow_add-count : goal.overflow_add-count
 overflow_add-count c =
-    let ahead : (let edge = c in let loop = edge in (loop.loop-next.at < c.in-Edge.next) × (c.in-Edge.next ≤ length loop.args.text.now)) = line_ahead _ _ _ _ _ _ _ _ _ _ _ _ _ _ _ c.loop-next.invariant _ c.edge_at-read.ensures.0 _ c.edge_at-read.ensures.1 _ _ c.in-Edge.is c.requires.0 in
-    let h = ahead in
+    let h = line_ahead _ _ _ _ _ _ _ _ _ _ _ _ _ _ _ c.loop-next.invariant _ c.edge_at-read.ensures.0 _ c.edge_at-read.ensures.1 _ _ c.in-Edge.is c.requires.0 in
     omega (arith, h.0, h.1)
 
 pub ring_end-requires : goal.ring_end-requires
 ring_end-requires c =
-    let dart_small : c.in-Edge.dart < 512 = let edge = c in let a = edge in dart_in _ _ _ _ _ _ _ _ _ _ _ _ _ _ _ edge.loop-next.invariant _ edge.edge_at-read.ensures.0 _ edge.edge_at-read.ensures.1 _ _ c.in-Edge.is a.requires.0 in
+    let dart_small = dart_in _ _ _ _ _ _ _ _ _ _ _ _ _ _ _ c.loop-next.invariant _ c.edge_at-read.ensures.0 _ c.edge_at-read.ensures.1 _ _ c.in-Edge.is c.requires.0 in
     (head_in _ _ _ _ _ _ _ _ _ _ _ _ _ _ _ c.loop-next.invariant _ c.edge_at-read.ensures.0 _ c.edge_at-read.ensures.1 _ _ c.in-Edge.is c.requires.0 _ c.link-head.ensures.0 _ c.link-head.ensures.1, dart_small)
 
 pub returns-then-byte-ne44 : goal.returns-then-byte-ne44
@@ -55,8 +53,7 @@ overflow_add-at-in-Edge c =
 
 pub loop-next-smaller : goal.loop-next-smaller
 loop-next-smaller c =
-    let ahead : (let edge = c in let loop = edge in (loop.loop-next.at < c.in-Edge.next) × (c.in-Edge.next ≤ length loop.args.text.now)) = line_ahead _ _ _ _ _ _ _ _ _ _ _ _ _ _ _ c.loop-next.invariant _ c.edge_at-read.ensures.0 _ c.edge_at-read.ensures.1 _ _ c.in-Edge.is c.requires.0 in
-    let h = ahead in
+    let h = line_ahead _ _ _ _ _ _ _ _ _ _ _ _ _ _ _ c.loop-next.invariant _ c.edge_at-read.ensures.0 _ c.edge_at-read.ensures.1 _ _ c.in-Edge.is c.requires.0 in
     omega (arith, h.0, h.1)
 
 pub loop-next-preserved : goal.loop-next-preserved

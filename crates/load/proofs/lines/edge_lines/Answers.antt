@@ -1,19 +1,20 @@
+-- `lines::edge_lines` meets its contract: the lines that are left are read from the place that is reached. Assumes nothing.
 use Rattle.std.proofs.Common.{rules}
-use Prim.Native.Nat.{◌<◌, ◌-◌}
+use Prim.Native.Nat.{ℕ, ◌<◌, ◌≤◌, ◌-◌}
 use mathlib.Core.Path.{◌≡◌, refl, sym, ◌∙◌}
 use mathlib.Core.Bool.{true}
 use mathlib.Core.Logic.{◌≢◌}
 use lib.ListN.{length-set}
 use native.Mathlib.Omega.{arith}
-use Rattle.text.specs.declared.Pair.TheVariants.{Two}
-use Rattle.text.specs.Reading.{line_at}
-use Rattle.text.specs.Shapes.{pair_of}
-use Rattle.text.specs.Keys.{wire_key}
 use Rattle.answers.specs.declared.Answer.TheVariants.{BadLayout, BadEdge}
 use Rattle.clauses.proofs.Touching.{joins_means}
 use Rattle.load.proofs.Turns.{edges_refused, edges_next, edges_over, edge_line_bad, Joins, edge_bad, edge_good, apart_more}
 use Rattle.load.proofs.Ends.{counted_most, counted_more, more_length, more_other}
 use Rattle.load.proofs.lines.edge_lines.Goals as goal
+
+-- the two ends of an edge, which joins two of at most 128 vertices
+ends : (n a b : ℕ) → n ≤ 128 → Joins n a b ≡ true → (a < 128) × (b < 128) × (a ≢ b)
+ends n a b few j = let (tail, head, apart) = joins_means n a b j in (omega arith, omega arith, apart)
 
 pub loop-k-init : goal.loop-k-init
 loop-k-init c =
@@ -26,38 +27,32 @@ returns-in-Other c =
 
 pub returns-then-not-joins : goal.returns-then-not-joins
 returns-then-not-joins c =
-    let pair : pair_of (line_at wire_key c.args.text.now c.loop-k.at) ≡ Two c.in-Two.a c.in-Two.b c.in-Two.next = sym c.pair_line-read.ensures ∙ c.in-Two.is in
+    let pair = sym c.pair_line-read.ensures ∙ c.in-Two.is in
     edges_refused _ _ _ _ _ _ _ _ _ BadEdge (edge_bad _ _ _ _ _ _ _ _ c.loop-k.invariant.1 c.loop-k-test.true _ _ _ pair (sym c.joins.ensures ∙ c.if-not-joins.true))
 
 pub count_end-requires : goal.count_end-requires
 count_end-requires c =
-    let joined : (let read = c in Joins read.args.n read.in-Two.a read.in-Two.b ≡ true) = sym c.joins.ensures ∙ c.if-not-joins.false in
-    let ends : (let read = c in (read.in-Two.a < 128) × (read.in-Two.b < 128) × (read.in-Two.a ≢ read.in-Two.b)) = let (tail, head, apart) = joins_means c.args.n c.in-Two.a c.in-Two.b joined in (omega (arith, c.requires.0), omega (arith, c.requires.0), apart) in
-    let (tail, head, apart) = ends in
+    let (tail, head, apart) = ends c.args.n _ _ c.requires.0 (sym c.joins.ensures ∙ c.if-not-joins.false) in
     let loop = c.loop-k in
     (tail, loop.invariant.5, omega (arith, counted_most loop.k loop.tails loop.heads loop.degrees loop.invariant.6 _ tail))
 
 pub count_end-requires-in-Two : goal.count_end-requires-in-Two
 count_end-requires-in-Two c =
-    let joined : (let read = c in Joins read.args.n read.in-Two.a read.in-Two.b ≡ true) = sym c.joins.ensures ∙ c.if-not-joins.false in
-    let ends : (let read = c in (read.in-Two.a < 128) × (read.in-Two.b < 128) × (read.in-Two.a ≢ read.in-Two.b)) = let (tail, head, apart) = joins_means c.args.n c.in-Two.a c.in-Two.b joined in (omega (arith, c.requires.0), omega (arith, c.requires.0), apart) in
+    let (tail, head, apart) = ends c.args.n _ _ c.requires.0 (sym c.joins.ensures ∙ c.if-not-joins.false) in
     let loop = c.loop-k in
-    let (tail, head, apart) = ends in
     let once = c.count_end.ensures in
     (head, rw once (more_length _ _ ∙ loop.invariant.5), rw once (omega (arith, more_other _ _ loop.degrees (λ e. apart (sym e)), counted_most loop.k loop.tails loop.heads loop.degrees loop.invariant.6 _ head)))
 
 pub loop-k-preserved : goal.loop-k-preserved
 loop-k-preserved c =
-    let pair : pair_of (line_at wire_key c.args.text.now c.loop-k.at) ≡ Two c.in-Two.a c.in-Two.b c.in-Two.next = sym c.pair_line-read.ensures ∙ c.in-Two.is in
-    let joined : (let read = c in Joins read.args.n read.in-Two.a read.in-Two.b ≡ true) = sym c.joins.ensures ∙ c.if-not-joins.false in
-    let ends : (let read = c in (read.in-Two.a < 128) × (read.in-Two.b < 128) × (read.in-Two.a ≢ read.in-Two.b)) = let read = c in let a = read in let (tail, head, apart) = joins_means a.args.n read.in-Two.a read.in-Two.b joined in (omega (arith, a.requires.0), omega (arith, a.requires.0), apart) in
-    let (tail, head, apart) = ends in
+    let pair = sym c.pair_line-read.ensures ∙ c.in-Two.is in
+    let (tail, head, apart) = ends c.args.n _ _ c.requires.0 (sym c.joins.ensures ∙ c.if-not-joins.false) in
     let once = c.count_end.ensures in
     let twice = c.count_end-in-Two.ensures in
     let now = c.loop-k in
     let inv = now.invariant in (
       search rules,
-      edge_good _ _ _ _ _ _ _ _ inv.1 c.loop-k-test.true _ _ _ pair joined,
+      edge_good _ _ _ _ _ _ _ _ inv.1 c.loop-k-test.true _ _ _ pair (sym c.joins.ensures ∙ c.if-not-joins.false),
       apart_more now.k _ _ now.tails now.heads (omega arith) (omega arith) apart inv.2,
       simp length-set inv.3,
       simp length-set inv.4,
