@@ -125,3 +125,13 @@ module _ {s : Sheet} (S : Sound s) where
     pub ring_listed : (edges : List ℕ) → edges ≡ ring_from (darts s) s first first → edges ≡ rotation s v
     unfolding rotation
     ring_listed edges q = q ∙ ap (λ d. ring_from (darts s) s d d) (e ∙ F.each v h)
+
+-- an end of an edge of a sound sheet has a place among 128
+module _ {s : Sheet} (S : Sound s) {k v : ℕ} (h : k < s.edges) where
+  pub tail_small : v ≡ tail s k → v < 128
+  tail_small e = omega (arith, e, (S.joins k h).tail_in, S.limits.vertices_most)
+
+  pub head_small : v ≡ head s k → v < 128
+  head_small e = omega (arith, e, (S.joins k h).head_in, S.limits.vertices_most)
+
+pub ruleset ends_small = (tail_small, head_small)

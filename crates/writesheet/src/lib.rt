@@ -22,6 +22,7 @@ pub struct Written {
 }
 
 // The dart of each vertex's lowest edge.
+#[tactic(auto, using(crate::proofs::Firsts::ends_small))]
 fn first_darts(s: Sheet) -> [u16; 128]
     requires { Sound s }
     ensures { Firsts s result }

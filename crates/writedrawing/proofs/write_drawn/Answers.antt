@@ -1,7 +1,5 @@
-use mathlib.Core.Path.{◌≡◌, sym, ◌∙◌}
-use mathlib.Core.Bool.{true}
+use mathlib.Core.Path.{sym, ◌∙◌}
 use borrow.Author.Tests.{leb-true, leb-false}
-use Rattle.answers.specs.Refusals.{is_accepted}
 use Rattle.writedrawing.proofs.Answered.{refused, is_so, limits, is_drawing, short_buffer, drawing_put}
 use Rattle.writedrawing.proofs.write_drawn.Goals as goal
 
@@ -10,23 +8,23 @@ returns-then-not-is_accepted c = refused _ _ c.requires (sym c.is_accepted.ensur
 
 pub fits-requires : goal.fits-requires
 fits-requires c =
-    let accepted : is_accepted c.args.drawn.answer ≡ true = sym c.is_accepted.ensures ∙ c.if-not-is_accepted.false in
-    let l = limits _ _ c.requires accepted in (l.vertices_most, l.edges_most)
+    let a = sym c.is_accepted.ensures ∙ c.if-not-is_accepted.false in
+    let l = limits _ _ c.requires a in (l.vertices_most, l.edges_most)
 
 pub returns-then-not-fits : goal.returns-then-not-fits
 returns-then-not-fits c =
-    let accepted : is_accepted c.args.drawn.answer ≡ true = sym c.is_accepted.ensures ∙ c.if-not-is_accepted.false in
-    let p = c.requires in let a = accepted in
+    let a = sym c.is_accepted.ensures ∙ c.if-not-is_accepted.false in
+    let p = c.requires in
     short_buffer _ (is_so _ _ p a) _ (is_drawing _ _ p a) _ (leb-false _ _ (sym c.fits.ensures ∙ c.if-not-fits.true))
 
 pub put_drawing-count-requires : goal.put_drawing-count-requires
 put_drawing-count-requires c =
-    let accepted : is_accepted c.args.drawn.answer ≡ true = sym c.is_accepted.ensures ∙ c.if-not-is_accepted.false in
-    let l = limits _ _ c.requires accepted in
+    let a = sym c.is_accepted.ensures ∙ c.if-not-is_accepted.false in
+    let l = limits _ _ c.requires a in
     (l.vertices_most, l.edges_most, leb-true _ _ (sym c.fits.ensures ∙ c.if-not-fits.false))
 
 pub returns : goal.returns
 returns c =
-    let accepted : is_accepted c.args.drawn.answer ≡ true = sym c.is_accepted.ensures ∙ c.if-not-is_accepted.false in
-    let p = c.requires in let a = accepted in
+    let a = sym c.is_accepted.ensures ∙ c.if-not-is_accepted.false in
+    let p = c.requires in
     drawing_put _ (is_so _ _ p a) _ (is_drawing _ _ p a) _ (leb-true _ _ (sym c.fits.ensures ∙ c.if-not-fits.false)) _ c.put_drawing-count.ensures.0 _ c.put_drawing-count.ensures.1
