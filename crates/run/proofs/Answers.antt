@@ -24,7 +24,7 @@ use Rattle.soundness.proofs.Law.{sound_law}
 use Rattle.preservation.proofs.Accepted.{neither, other_number, not_at_most}
 use Rattle.edit.specs.Reaching.{leads_to}
 use Rattle.edit.specs.Calls.{no_edge, no_vertex, corner_face, run_answer}
-use Rattle.run.specs.Inner.{corner_of, Named, Room}
+use Rattle.run.specs.Inner.{corner_of, Pair, Named, Room}
 use Rattle.run.proofs.Corners.{touches_is, corner_is}
 
 module _ (s : Sheet) (a p b q : ℕ) where
@@ -171,3 +171,14 @@ given s a p b q z e =
 
 -- a law for each answer before the two corners are looked at, and what the check of soundness found
 pub ruleset answers = (not_sound, no_start, no_end, no_first, no_second, found_sound, found_faces, found_rows)
+
+-- what is named is a pair of vertices of a sound sheet, which has at most 256 edges
+module _ {s : Sheet} {faces : List ℕ} {a p b q : ℕ} (g : Named s faces a p b q) where
+  pub named_few : s.edges ≤ 256
+  named_few = ((sound_law s g.sized).0 g.accepted).limits.edges_most
+
+  pub named_pair : a ≢ b → Pair s a b
+  named_pair o = record { sized = g.sized; sound = (sound_law s g.sized).0 g.accepted; a_in = g.a_in; b_in = g.b_in; other = o }
+
+-- a law for each answer from the two corners on
+pub ruleset join_answers = (first_apart, second_apart, corners_apart, same_vertex, closes, no_room, accepted)

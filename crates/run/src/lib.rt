@@ -120,6 +120,7 @@ fn run_answer(s: Sheet, a: usize, p: usize, b: usize, q: usize) -> Answer
 }
 
 // What run refuses of a sound sheet whose vertices and edges are named, in order.
+#[tactic(auto, using(crate::proofs::Answers::join_answers))]
 fn join_answer(
     s: Sheet,
     faces: &[u16; 512],
