@@ -6,6 +6,7 @@ use mathlib.Core.Bool.{true, false, not, ◌&&◌, ◌||◌, and-eq-true_iff}
 use native.Mathlib.Omega.{arith}
 use lib.Dec.{eqb}
 use borrow.Author.Tests.{le-leb, lt-leb, eq-eqb, ne_eqb, eqb-true}
+use Rattle.counting.specs.Below.{lowest_below}
 use Rattle.answers.specs.declared.Answer.TheVariants.{Accepted, NotSound, NotInSheet, VertexNeeded}
 use Rattle.answers.specs.Answers.{refusal_number}
 use Rattle.answers.specs.Refusals.{first}
@@ -62,6 +63,17 @@ incoming_in s v o = (lowest_passes (λ k. eqb (head s k) v) s.edges o).0
 pub outgoing_in : (s : Sheet) (v : ℕ) → out_degree s v ≡ 1 → outgoing_edge s v < s.edges
 unfolding out_degree outgoing_edge
 outgoing_in s v o = (lowest_passes (λ k. eqb (tail s k) v) s.edges o).0
+
+-- an edge found as they are
+pub found_in : (s : Sheet) (v i : ℕ) → in_degree s v ≡ 1 → i ≡ lowest_below (λ k. eqb (head s k) v) s.edges → i < s.edges
+unfolding incoming_edge
+found_in s v i o p = omega (arith, p, incoming_in s v o)
+
+pub found_out : (s : Sheet) (v i : ℕ) → out_degree s v ≡ 1 → i ≡ lowest_below (λ k. eqb (tail s k) v) s.edges → i < s.edges
+unfolding outgoing_edge
+found_out s v i o p = omega (arith, p, outgoing_in s v o)
+
+pub ruleset found = (found_in, found_out)
 
 -- what an accepted call was given
 pub given : (s : Sheet) (v : ℕ) → Sized s → take_out_vertex_answer s v ≡ Accepted

@@ -49,6 +49,7 @@ fn last_vertex_to(s: Sheet, v: usize) -> Sheet
 
 // The sheet without vertex v: its incoming edge goes on to the head of its outgoing edge, which goes.
 // The last edge gets the freed number, then the last vertex gets number v.
+#[tactic(auto, using(crate::proofs::Answers::found))]
 fn without_vertex(s: Sheet, v: usize) -> Sheet
     requires { (v < s.vertices) × (s.vertices ≤ 128) × (s.edges ≤ 256) × (in_degree s v ≡ 1) × (out_degree s v ≡ 1) }
     ensures { result ≡ take_out_vertex s v }

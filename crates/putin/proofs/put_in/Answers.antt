@@ -1,5 +1,4 @@
 use Rattle.std.proofs.Common.{rules}
-use Rattle.sheet.specs.Darts.{Sized}
 use Rattle.edit.specs.Changes.{put_in}
 use Rattle.edit.proofs.Outcomes.{refused_edit, was_accepted, accepted_edit}
 use Rattle.preservation.proofs.PutIn.{put_in_given}
@@ -11,9 +10,8 @@ returns-then-not-is_accepted c = let a = c.args in
 
 pub split_edge-made-requires : goal.split_edge-made-requires
 split_edge-made-requires c =
-    let sized : Sized c.args.s = record { tails = search rules; heads = search rules; nexts = search rules } in
     let a = c.args in
-    let g = put_in_given a.s a.k sized (was_accepted a.s (λ _. put_in a.s a.k) _ _ c.put_in_answer-answer.ensures _ c.is_accepted.ensures c.if-not-is_accepted.false-raw) in
+    let g = put_in_given a.s a.k (search rules) (was_accepted a.s (λ _. put_in a.s a.k) _ _ c.put_in_answer-answer.ensures _ c.is_accepted.ensures c.if-not-is_accepted.false-raw) in
     (g.k_in, g.n_room, g.m_room)
 
 pub returns : goal.returns

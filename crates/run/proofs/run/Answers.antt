@@ -1,6 +1,5 @@
 -- `run::run` meets its contract. By its answer. Assumes nothing.
 use Rattle.std.proofs.Common.{rules}
-use Rattle.sheet.specs.Darts.{Sized}
 use Rattle.edit.specs.Changes.{run_edge}
 use Rattle.edit.proofs.Outcomes.{refused_edit, was_accepted, accepted_edit}
 use Rattle.run.proofs.Answers.{given}
@@ -12,9 +11,8 @@ returns-then-not-is_accepted c = let a = c.args in
 
 pub add_edge-made-requires : goal.add_edge-made-requires
 add_edge-made-requires c =
-    let sized : Sized c.args.s = record { tails = search rules; heads = search rules; nexts = search rules } in
     let a = c.args in
-    given a.s a.a a.p a.b a.q sized (was_accepted a.s (λ _. run_edge a.s a.a a.p a.b a.q) _ _ c.run_answer-answer.ensures _ c.is_accepted.ensures c.if-not-is_accepted.false-raw)
+    given a.s a.a a.p a.b a.q (search rules) (was_accepted a.s (λ _. run_edge a.s a.a a.p a.b a.q) _ _ c.run_answer-answer.ensures _ c.is_accepted.ensures c.if-not-is_accepted.false-raw)
 
 pub returns : goal.returns
 returns c = let a = c.args in

@@ -1,6 +1,5 @@
 -- `takeoutedge::take_out_edge` meets its contract. Assumes nothing.
 use Rattle.std.proofs.Common.{rules}
-use Rattle.sheet.specs.Darts.{Sized}
 use Rattle.edit.specs.Changes.{take_out_edge}
 use Rattle.edit.proofs.Outcomes.{refused_edit, was_accepted, accepted_edit}
 use Rattle.takeoutedge.proofs.Answers.{given}
@@ -12,9 +11,8 @@ returns-then-not-is_accepted c = let a = c.args in
 
 pub without_edge-made-requires : goal.without_edge-made-requires
 without_edge-made-requires c =
-    let sized : Sized c.args.s = record { tails = search rules; heads = search rules; nexts = search rules } in
     let a = c.args in
-    given a.s a.k sized (was_accepted a.s (λ _. take_out_edge a.s a.k) _ _ c.take_out_edge_answer-answer.ensures _ c.is_accepted.ensures c.if-not-is_accepted.false-raw)
+    given a.s a.k (search rules) (was_accepted a.s (λ _. take_out_edge a.s a.k) _ _ c.take_out_edge_answer-answer.ensures _ c.is_accepted.ensures c.if-not-is_accepted.false-raw)
 
 pub returns : goal.returns
 returns c = let a = c.args in

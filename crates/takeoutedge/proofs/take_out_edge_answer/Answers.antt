@@ -1,33 +1,22 @@
 -- `takeoutedge::take_out_edge_answer` meets its contract, a law for each answer. Assumes nothing.
-use Prim.Native.Nat.{◌<◌}
-use mathlib.Core.Path.{◌≡◌, sym, ◌∙◌}
-use mathlib.Core.Bool.{true}
+use mathlib.Core.Path.{sym, ◌∙◌}
 use native.Mathlib.Omega.{arith}
-use Rattle.sheet.specs.Check.{sound}
-use Rattle.sheet.specs.Darts.{tail, head}
-use Rattle.edit.specs.Calls.{out_degree, in_degree}
 use Rattle.takeoutedge.proofs.Answers.{out_degree_law, in_degree_law, only_outgoing, only_incoming, accepted}
 use Rattle.takeoutedge.proofs.take_out_edge_answer.Goals as goal
 
 pub returns-then-degree-eq1 : goal.returns-then-degree-eq1
 returns-then-degree-eq1 c =
-    let is_so : sound c.args.s ≡ true = sym c.is_sound.ensures ∙ c.if-not-is_sound.false in
-    let inside : c.args.k < c.args.s.edges = omega (arith, c.if-m-k.false) in
-    let out : (let a = c.args in c.degree.result ≡ out_degree a.s (tail a.s a.k)) = out_degree_law _ _ _ _ c.wide-tail.ensures.0 c.degree.ensures in
-    only_outgoing _ _ is_so inside (omega arith) (omega arith) (sym out ∙ c.if-degree-eq1.true)
+    let out = out_degree_law _ _ _ _ c.wide-tail.ensures.0 c.degree.ensures in
+    only_outgoing _ _ (sym c.is_sound.ensures ∙ c.if-not-is_sound.false) (omega arith) (omega arith) (omega arith) (sym out ∙ c.if-degree-eq1.true)
 
 pub returns-then-degree-eq1-2 : goal.returns-then-degree-eq1-2
 returns-then-degree-eq1-2 c =
-    let is_so : sound c.args.s ≡ true = sym c.is_sound.ensures ∙ c.if-not-is_sound.false in
-    let inside : c.args.k < c.args.s.edges = omega (arith, c.if-m-k.false) in
-    let out : (let a = c.args in c.degree.result ≡ out_degree a.s (tail a.s a.k)) = out_degree_law _ _ _ _ c.wide-tail.ensures.0 c.degree.ensures in
-    let ins : (let a = c.args in c.degree-2.result ≡ in_degree a.s (head a.s a.k)) = in_degree_law _ _ _ _ c.wide-head.ensures.0 c.degree-2.ensures in
-    only_incoming _ _ is_so inside (omega arith) (omega arith) (λ q. c.if-degree-eq1.false (out ∙ q)) (sym ins ∙ c.if-degree-eq1-2.true)
+    let out = out_degree_law _ _ _ _ c.wide-tail.ensures.0 c.degree.ensures in
+    let ins = in_degree_law _ _ _ _ c.wide-head.ensures.0 c.degree-2.ensures in
+    only_incoming _ _ (sym c.is_sound.ensures ∙ c.if-not-is_sound.false) (omega arith) (omega arith) (omega arith) (λ q. c.if-degree-eq1.false (out ∙ q)) (sym ins ∙ c.if-degree-eq1-2.true)
 
 pub returns : goal.returns
 returns c =
-    let is_so : sound c.args.s ≡ true = sym c.is_sound.ensures ∙ c.if-not-is_sound.false in
-    let inside : c.args.k < c.args.s.edges = omega (arith, c.if-m-k.false) in
-    let out : (let a = c.args in c.degree.result ≡ out_degree a.s (tail a.s a.k)) = out_degree_law _ _ _ _ c.wide-tail.ensures.0 c.degree.ensures in
-    let ins : (let a = c.args in c.degree-2.result ≡ in_degree a.s (head a.s a.k)) = in_degree_law _ _ _ _ c.wide-head.ensures.0 c.degree-2.ensures in
-    accepted _ _ is_so inside (omega arith) (omega arith) (λ q. c.if-degree-eq1.false (out ∙ q)) (λ q. c.if-degree-eq1-2.false (ins ∙ q))
+    let out = out_degree_law _ _ _ _ c.wide-tail.ensures.0 c.degree.ensures in
+    let ins = in_degree_law _ _ _ _ c.wide-head.ensures.0 c.degree-2.ensures in
+    accepted _ _ (sym c.is_sound.ensures ∙ c.if-not-is_sound.false) (omega arith) (omega arith) (omega arith) (λ q. c.if-degree-eq1.false (out ∙ q)) (λ q. c.if-degree-eq1-2.false (ins ∙ q))

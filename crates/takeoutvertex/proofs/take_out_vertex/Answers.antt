@@ -1,6 +1,5 @@
 -- `takeoutvertex::take_out_vertex` meets its contract. Assumes nothing.
 use Rattle.std.proofs.Common.{rules}
-use Rattle.sheet.specs.Darts.{Sized}
 use Rattle.edit.specs.Changes.{take_out_vertex}
 use Rattle.edit.proofs.Outcomes.{refused_edit, was_accepted, accepted_edit}
 use Rattle.takeoutvertex.proofs.Answers.{given}
@@ -12,9 +11,8 @@ returns-then-not-is_accepted c = let a = c.args in
 
 pub without_vertex-made-requires : goal.without_vertex-made-requires
 without_vertex-made-requires c =
-    let sized : Sized c.args.s = record { tails = search rules; heads = search rules; nexts = search rules } in
     let a = c.args in
-    given a.s a.v sized (was_accepted a.s (λ _. take_out_vertex a.s a.v) _ _ c.take_out_vertex_answer-answer.ensures _ c.is_accepted.ensures c.if-not-is_accepted.false-raw)
+    given a.s a.v (search rules) (was_accepted a.s (λ _. take_out_vertex a.s a.v) _ _ c.take_out_vertex_answer-answer.ensures _ c.is_accepted.ensures c.if-not-is_accepted.false-raw)
 
 pub returns : goal.returns
 returns c = let a = c.args in
