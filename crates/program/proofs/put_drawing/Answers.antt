@@ -8,10 +8,10 @@ use Rattle.program.proofs.put_drawing.Goals as goal
 
 pub overflow_add-result : goal.overflow_add-result
 overflow_add-result c =
-    let counted : c.write_drawing-written.result.count ≡ length (drawing_text_of c.args.s) = let start = c in drawing_count _ start.requires.0 start.args.out.now _ start.requires.1 _ c.write_drawing-written.ensures.0 in
+    let counted : c.write_drawing-written.result.count ≡ length (drawing_text_of c.args.s) = drawing_count _ c.requires.0 c.args.out.now _ c.requires.1 _ c.write_drawing-written.ensures.0 in
     omega (arith, counted, c.requires.1)
 
 pub returns : goal.returns
 returns c =
-    let counted : c.write_drawing-written.result.count ≡ length (drawing_text_of c.args.s) = let put = c in let start = put in drawing_count _ start.requires.0 start.args.out.now _ start.requires.1 _ put.write_drawing-written.ensures.0 in
+    let counted : c.write_drawing-written.result.count ≡ length (drawing_text_of c.args.s) = drawing_count _ c.requires.0 c.args.out.now _ c.requires.1 _ c.write_drawing-written.ensures.0 in
     (ap (λ n. c.args.at + n) counted, drawing_left _ c.requires.0 _ _ c.requires.1 _ c.write_drawing-written.ensures.1)

@@ -18,12 +18,12 @@ put_refused-next-requires c =
 
 pub overflow_add-at : goal.overflow_add-at
 overflow_add-at c =
-    let next_place : (let loop = c in let taken = c.read_edit-read.result.taken in (0 < taken) × (loop.loop-at.at + taken ≤ length loop.args.input.now)) = let input = c.args.input.now in let h = c.loop-at-test.true in (taken_some input _ h _ _ c.read_edit-read.ensures _ c.apply-edited.ensures, taken_most input _ h _ _ c.read_edit-read.ensures _ c.apply-edited.ensures) in
+    let next_place : (let taken = c.read_edit-read.result.taken in (0 < taken) × (c.loop-at.at + taken ≤ length c.args.input.now)) = let input = c.args.input.now in let h = c.loop-at-test.true in (taken_some input _ h _ _ c.read_edit-read.ensures _ c.apply-edited.ensures, taken_most input _ h _ _ c.read_edit-read.ensures _ c.apply-edited.ensures) in
     omega (arith, next_place)
 
 pub loop-at-smaller : goal.loop-at-smaller
 loop-at-smaller c =
-    let next_place : (let loop = c in let taken = c.read_edit-read.result.taken in (0 < taken) × (loop.loop-at.at + taken ≤ length loop.args.input.now)) = let input = c.args.input.now in let h = c.loop-at-test.true in (taken_some input _ h _ _ c.read_edit-read.ensures _ c.apply-edited.ensures, taken_most input _ h _ _ c.read_edit-read.ensures _ c.apply-edited.ensures) in
+    let next_place : (let taken = c.read_edit-read.result.taken in (0 < taken) × (c.loop-at.at + taken ≤ length c.args.input.now)) = let input = c.args.input.now in let h = c.loop-at-test.true in (taken_some input _ h _ _ c.read_edit-read.ensures _ c.apply-edited.ensures, taken_most input _ h _ _ c.read_edit-read.ensures _ c.apply-edited.ensures) in
     omega (arith, next_place)
 
 pub loop-at-preserved : goal.loop-at-preserved

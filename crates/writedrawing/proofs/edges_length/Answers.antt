@@ -15,12 +15,12 @@ loop-k-init c = (search rules, refl)
 
 pub overflow_add-sum : goal.overflow_add-sum
 overflow_add-sum c =
-    let summed : (let loop = c in loop.loop-k.sum + c.line_length-sum.result ≡ length (join_below (edge_text loop.args.d) (loop.loop-k.k + 1))) = let loop = c in omega (arith, join_size (edge_text loop.args.d) loop.loop-k.k, c.line_length-sum.ensures, ap length (edge_line_law _ c.edge_values-values.ensures)) in
+    let summed : (c.loop-k.sum + c.line_length-sum.result ≡ length (join_below (edge_text c.args.d) (c.loop-k.k + 1))) = omega (arith, join_size (edge_text c.args.d) c.loop-k.k, c.line_length-sum.ensures, ap length (edge_line_law _ c.edge_values-values.ensures)) in
     omega (arith, summed, edges_short c.args.d (c.loop-k.k + 1))
 
 pub loop-k-preserved : goal.loop-k-preserved
 loop-k-preserved c =
-    let summed : (let loop = c in loop.loop-k.sum + c.line_length-sum.result ≡ length (join_below (edge_text loop.args.d) (loop.loop-k.k + 1))) = omega (arith, join_size (edge_text c.args.d) c.loop-k.k, c.line_length-sum.ensures, ap length (edge_line_law _ c.edge_values-values.ensures)) in
+    let summed : (c.loop-k.sum + c.line_length-sum.result ≡ length (join_below (edge_text c.args.d) (c.loop-k.k + 1))) = omega (arith, join_size (edge_text c.args.d) c.loop-k.k, c.line_length-sum.ensures, ap length (edge_line_law _ c.edge_values-values.ensures)) in
     (search rules, summed)
 
 pub returns : goal.returns

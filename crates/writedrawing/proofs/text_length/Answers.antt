@@ -19,10 +19,10 @@ overflow_add-result-2 c =
 pub overflow_add-result-3 : goal.overflow_add-result-3
 overflow_add-result-3 c =
     let short : length (drawing_text c.args.n c.args.m c.args.d) < 2 ^ 32 = omega (arith, drawing_short c.args.d c.args.n c.args.m c.requires.0 c.requires.1) in
-    let whole : (let columns = c in let start = c in columns.line_length-rows.result + columns.line_length-columns.result + c.vertices_length.result + c.edges_length.result ≡ length (drawing_text start.args.n start.args.m start.args.d)) = omega (arith, drawing_size c.args.d c.args.n c.args.m, c.line_length-rows.ensures, c.line_length-columns.ensures, c.vertices_length.ensures, c.edges_length.ensures) in
+    let whole : (c.line_length-rows.result + c.line_length-columns.result + c.vertices_length.result + c.edges_length.result ≡ length (drawing_text c.args.n c.args.m c.args.d)) = omega (arith, drawing_size c.args.d c.args.n c.args.m, c.line_length-rows.ensures, c.line_length-columns.ensures, c.vertices_length.ensures, c.edges_length.ensures) in
     omega (arith, whole, short)
 
 pub returns : goal.returns
 returns c =
-    let whole : (let columns = c in let start = c in columns.line_length-rows.result + columns.line_length-columns.result + c.vertices_length.result + c.edges_length.result ≡ length (drawing_text start.args.n start.args.m start.args.d)) = omega (arith, drawing_size c.args.d c.args.n c.args.m, c.line_length-rows.ensures, c.line_length-columns.ensures, c.vertices_length.ensures, c.edges_length.ensures) in
+    let whole : (c.line_length-rows.result + c.line_length-columns.result + c.vertices_length.result + c.edges_length.result ≡ length (drawing_text c.args.n c.args.m c.args.d)) = omega (arith, drawing_size c.args.d c.args.n c.args.m, c.line_length-rows.ensures, c.line_length-columns.ensures, c.vertices_length.ensures, c.edges_length.ensures) in
     whole

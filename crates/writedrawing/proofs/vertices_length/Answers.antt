@@ -15,12 +15,12 @@ loop-v-init c = (search rules, refl)
 
 pub overflow_add-sum : goal.overflow_add-sum
 overflow_add-sum c =
-    let summed : (let loop = c in loop.loop-v.sum + c.line_length-sum.result ≡ length (join_below (vertex_text loop.args.d) (loop.loop-v.v + 1))) = let loop = c in omega (arith, join_size (vertex_text loop.args.d) loop.loop-v.v, c.line_length-sum.ensures, ap length (vertex_line_law _ c.vertex_values-values.ensures)) in
+    let summed : (c.loop-v.sum + c.line_length-sum.result ≡ length (join_below (vertex_text c.args.d) (c.loop-v.v + 1))) = omega (arith, join_size (vertex_text c.args.d) c.loop-v.v, c.line_length-sum.ensures, ap length (vertex_line_law _ c.vertex_values-values.ensures)) in
     omega (arith, summed, vertices_short c.args.d (c.loop-v.v + 1))
 
 pub loop-v-preserved : goal.loop-v-preserved
 loop-v-preserved c =
-    let summed : (let loop = c in loop.loop-v.sum + c.line_length-sum.result ≡ length (join_below (vertex_text loop.args.d) (loop.loop-v.v + 1))) = omega (arith, join_size (vertex_text c.args.d) c.loop-v.v, c.line_length-sum.ensures, ap length (vertex_line_law _ c.vertex_values-values.ensures)) in
+    let summed : (c.loop-v.sum + c.line_length-sum.result ≡ length (join_below (vertex_text c.args.d) (c.loop-v.v + 1))) = omega (arith, join_size (vertex_text c.args.d) c.loop-v.v, c.line_length-sum.ensures, ap length (vertex_line_law _ c.vertex_values-values.ensures)) in
     (search rules, summed)
 
 pub returns : goal.returns

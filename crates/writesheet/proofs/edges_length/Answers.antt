@@ -14,7 +14,7 @@ loop-k-init c = (search rules, refl)
 
 pub overflow_add-sum : goal.overflow_add-sum
 overflow_add-sum c =
-    let summed : c.loop-k.sum + c.line_length-sum.result ≡ length (join_below (edge_text c.args.s) (c.loop-k.k + 1)) = let loop = c in omega (arith, join_size (edge_text loop.args.s) loop.loop-k.k, c.line_length-sum.ensures) in
+    let summed : c.loop-k.sum + c.line_length-sum.result ≡ length (join_below (edge_text c.args.s) (c.loop-k.k + 1)) = omega (arith, join_size (edge_text c.args.s) c.loop-k.k, c.line_length-sum.ensures) in
     omega (arith, summed, edges_short c.args.s (c.loop-k.k + 1), c.requires.limits.edges_most)
 
 pub loop-k-preserved : goal.loop-k-preserved

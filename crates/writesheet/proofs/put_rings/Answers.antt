@@ -14,7 +14,7 @@ loop-v-init c = (search rules, put_none _ _)
 
 pub put_ring-next-requires : goal.put_ring-next-requires
 put_ring-next-requires c =
-    let lined : (let at_loop = c in let s = c.args.s in ring_line (darts s) s.nexts c.wide-first.result ≡ ring_text s at_loop.loop-v.v) = let start = c in ring_line_law start.requires.0 start.requires.1 _ c.loop-v-test.true _ c.wide-first.ensures.0 in
+    let lined : (let s = c.args.s in ring_line (darts s) s.nexts c.wide-first.result ≡ ring_text s c.loop-v.v) = ring_line_law c.requires.0 c.requires.1 _ c.loop-v-test.true _ c.wide-first.ensures.0 in
     record {
       darts_bound = ring_asks c.requires.0 c.requires.1 _ c.loop-v-test.true _ c.wide-first.ensures.0;
       first_in_bounds = rw lined (line_room (ring_text c.args.s) _ c.loop-v.invariant.1 _ c.loop-v-test.true c.requires.2);
@@ -22,7 +22,7 @@ put_ring-next-requires c =
 
 pub loop-v-preserved : goal.loop-v-preserved
 loop-v-preserved c =
-    let lined : (let at_loop = c in let s = c.args.s in ring_line (darts s) s.nexts c.wide-first.result ≡ ring_text s at_loop.loop-v.v) = ring_line_law c.requires.0 c.requires.1 _ c.loop-v-test.true _ c.wide-first.ensures.0 in
+    let lined : (let s = c.args.s in ring_line (darts s) s.nexts c.wide-first.result ≡ ring_text s c.loop-v.v) = ring_line_law c.requires.0 c.requires.1 _ c.loop-v-test.true _ c.wide-first.ensures.0 in
     (search rules, line_put (ring_text c.args.s) _ c.loop-v.invariant.1 (rw lined at c.put_ring-next.ensures.0) (rw lined at c.put_ring-next.ensures.1))
 
 pub shape_of-out : goal.shape_of-out

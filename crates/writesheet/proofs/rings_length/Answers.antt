@@ -21,8 +21,8 @@ list_ring-count-requires c =
 
 pub overflow_add-sum : goal.overflow_add-sum
 overflow_add-sum c =
-    let listed : take c.list_ring-count.result c.list_ring-count.new.edges ≡ rotation c.args.s c.loop-v.v = let start = c in ring_listed start.requires.0 start.requires.1 _ c.loop-v-test.true _ c.wide-first.ensures.0 _ (c.list_ring-count.ensures.3 start.args.s refl) in
-    let summed : c.loop-v.sum + c.line_length-sum.result ≡ length (join_below (ring_text c.args.s) (c.loop-v.v + 1)) = let loop = c in omega (arith, join_size (ring_text loop.args.s) loop.loop-v.v, rw listed at c.line_length-sum.ensures) in
+    let listed : take c.list_ring-count.result c.list_ring-count.new.edges ≡ rotation c.args.s c.loop-v.v = ring_listed c.requires.0 c.requires.1 _ c.loop-v-test.true _ c.wide-first.ensures.0 _ (c.list_ring-count.ensures.3 c.args.s refl) in
+    let summed : c.loop-v.sum + c.line_length-sum.result ≡ length (join_below (ring_text c.args.s) (c.loop-v.v + 1)) = omega (arith, join_size (ring_text c.args.s) c.loop-v.v, rw listed at c.line_length-sum.ensures) in
     omega (arith, summed, rings_short c.requires.0 (c.loop-v.v + 1) (omega arith))
 
 pub loop-v-preserved : goal.loop-v-preserved

@@ -19,6 +19,6 @@ pub returns : goal.returns
 returns c =
     let tail_there : (let a = c.args in c.bit-tail.result ≡ bit (eqb (get_or a.tails.now a.w 0) a.v)) = c.bit-tail.ensures.0 ∙ ap (λ (x : ℕ). bit (eqb x c.args.v)) c.wide-2.ensures.0 in
     let head_there : (let a = c.args in c.bit-head.result ≡ bit (eqb (get_or a.heads.now a.w 0) a.v)) = c.bit-head.ensures.0 ∙ ap (λ (x : ℕ). bit (eqb x c.args.v)) c.wide-3.ensures.0 in
-    let not_seen : (let a = c.args in get_or a.seen.now a.w 0 ≢ a.v + 1) = λ q. (c).if-wide-v.false (c.wide.ensures.0 ∙ q) in
+    let not_seen : (let a = c.args in get_or a.seen.now a.w 0 ≢ a.v + 1) = λ q. c.if-wide-v.false (c.wide.ensures.0 ∙ q) in
     let a = c.args in
     fits_end a.m a.tails.now a.heads.now a.v a.seen.now a.w c.if-m-w.false not_seen c.requires.2 _ _ tail_there head_there

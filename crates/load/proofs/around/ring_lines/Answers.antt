@@ -20,12 +20,12 @@ ring_line-step-requires c = (search rules, search rules, c.requires.2)
 pub returns-in-Refused : goal.returns-in-Refused
 unfolding after_rings
 returns-in-Refused c =
-    let degree_is : (let loop = c in let a = loop.args in c.wide-degree.result ≡ count (λ k. touches_of a.tails.now a.heads.now k loop.loop-v.v) a.m) = let loop = c in c.wide-degree.ensures.0 ∙ loop.requires.3 loop.loop-v.v (omega arith) in
+    let degree_is : (let a = c.args in c.wide-degree.result ≡ count (λ k. touches_of a.tails.now a.heads.now k c.loop-v.v) a.m) = c.wide-degree.ensures.0 ∙ c.requires.3 c.loop-v.v (omega arith) in
     ring_line_refused _ _ _ _ _ _ _ _ _ c.loop-v.invariant.1 c.loop-v-test.true c.loop-v.seen (omega arith) c.loop-v.invariant.2 _ degree_is _ _ _ c.ring_line-step.ensures _ c.in-Refused.is
 
 pub loop-v-preserved : goal.loop-v-preserved
 loop-v-preserved c =
-    let degree_is : (let loop = c in let a = loop.args in c.wide-degree.result ≡ count (λ k. touches_of a.tails.now a.heads.now k loop.loop-v.v) a.m) = let loop = c in c.wide-degree.ensures.0 ∙ loop.requires.3 loop.loop-v.v (omega arith) in
+    let degree_is : (let a = c.args in c.wide-degree.result ≡ count (λ k. touches_of a.tails.now a.heads.now k c.loop-v.v) a.m) = c.wide-degree.ensures.0 ∙ c.requires.3 c.loop-v.v (omega arith) in
     let read = c.ring_line-step.ensures in
     (search rules, ring_line_next _ _ _ _ _ _ _ _ _ c.loop-v.invariant.1 c.loop-v-test.true c.loop-v.seen (omega arith) c.loop-v.invariant.2 _ degree_is _ _ _ read _ c.in-Next.is, (λ k. read.marks k (omega (arith, c.loop-v.invariant.2 k))), read.size ∙ c.loop-v.invariant.3)
 
