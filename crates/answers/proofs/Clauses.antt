@@ -1,26 +1,23 @@
 -- Tests in order and statements in order give the same number.
-use Prim.Native.Nat.{ℕ}
-use mathlib.Core.Path.{◌≡◌, refl, sym, ◌∙◌}
-use mathlib.Core.Logic.{inl, inr, ◌↔◌}
-use mathlib.Core.Bool.{Bool, true, false, false≢true}
-use mathlib.Core.List.{List, [], ◌∷◌}
-use Rattle.answers.specs.declared.Answer.{Answer}
-use Rattle.answers.specs.Answers.{refusal_number}
-use Rattle.answers.specs.Refusals.{Refusal, ◌if◌, first}
+use Rattle.std.proofs.Common.{ℕ, ◌≡◌, refl, sym, ◌∙◌, inl, inr, ◌↔◌, Bool, true, false, List, [], ◌∷◌, Ok, Err}
+use Rattle.std.proofs.lemmas.Bool.{false≢true}
+use Rattle.answers.specs.declared.Refusal.{Refusal}
+use Rattle.answers.specs.Answers.{refusal_number, answer_number}
+use Rattle.answers.specs.Refusals.{Test, ◌if◌, first}
 use Rattle.answers.specs.Clauses.{Clause, ◌when◌, First}
 
 -- each test says what its statement says, where none before it holds; and the answers have the statements' numbers
-pub data Agree : List Refusal → List Clause → Type 1 where
+pub data Agree : List Test → List Clause → Type 1 where
   none : Agree [] []
-  then : {a : Answer} {b : Bool} {n : ℕ} {p : Type 0} {rs : List Refusal} {cs : List Clause}
-      → refusal_number a ≡ n → (b ≡ true ↔ p) → (b ≡ false → Agree rs cs) → Agree (a if b ∷ rs) (n when p ∷ cs)
+  then : {r : Refusal} {b : Bool} {n : ℕ} {p : Type 0} {ts : List Test} {cs : List Clause}
+      → refusal_number r ≡ n → (b ≡ true ↔ p) → (b ≡ false → Agree ts cs) → Agree (r if b ∷ ts) (n when p ∷ cs)
 
-pub first_number : {rs : List Refusal} {cs : List Clause} → Agree rs cs → First cs (refusal_number (first rs))
-unfolding first First refusal_number
+pub first_number : {ts : List Test} {cs : List Clause} → Agree ts cs → First cs (answer_number (first ts))
+unfolding first First answer_number
 first_number none = refl
-first_number (then {a} {b} {n} {p} {rs} {cs} e i later) = go b refl (λ t. first_number (later t))
+first_number (then {r} {b} {n} {p} {ts} {cs} e i later) = go b refl (λ t. first_number (later t))
   where
-    go : (c : Bool) → b ≡ c → (b ≡ false → First cs (refusal_number (first rs))) → First (n when p ∷ cs) (refusal_number (first (a if b ∷ rs)))
+    go : (c : Bool) → b ≡ c → (b ≡ false → First cs (answer_number (first ts))) → First (n when p ∷ cs) (answer_number (first (r if b ∷ ts)))
     go true t f = rw t (inl (i.0 t, e))
     go false t f = rw t (inr ((λ h. false≢true (sym t ∙ i.1 h)), f t))
 

@@ -1,10 +1,9 @@
--- The numbers of document 01 for each answer: 0 for acceptance, else the refusal number.
-use Rattle.std.specs.Prelude.{ℕ}
-use Rattle.answers.specs.declared.Answer.{Answer}
-use Rattle.answers.specs.declared.Answer.TheVariants.{Accepted, BadLayout, CountOutOfLimits, BadEdge, BadRotation, BadRoot, Cyclic, BadPoles, NotPlanar, NotSound, NotInSheet, Full, RootEdge, CornersApart, ClosesCircle, EdgeNeeded, VertexNeeded, BufferTooShort, InputTooLong}
+-- What a call answers, and the numbers of document 01: 0 for acceptance, else the refusal number.
+use Rattle.std.specs.Prelude.{ℕ, Result, Ok, Err}
+use Rattle.answers.specs.declared.Refusal.{Refusal}
+use Rattle.answers.specs.declared.Refusal.TheVariants.{BadLayout, CountOutOfLimits, BadEdge, BadRotation, BadRoot, Cyclic, BadPoles, NotPlanar, NotSound, NotInSheet, Full, RootEdge, CornersApart, ClosesCircle, EdgeNeeded, VertexNeeded, BufferTooShort, InputTooLong}
 
-unfoldable pub refusal_number : Answer → ℕ
-refusal_number Accepted = 0
+unfoldable pub refusal_number : Refusal → ℕ
 -- text or line not of the layout
 refusal_number BadLayout = 1
 -- n or m outside its limits
@@ -41,3 +40,11 @@ refusal_number VertexNeeded = 16
 refusal_number BufferTooShort = 17
 -- more than 16,384 bytes
 refusal_number InputTooLong = 18
+
+-- Acceptance, or a refusal.
+abbrev pub Answer : Type 0
+Answer = Result (Unit {0}) Refusal
+
+unfoldable pub answer_number : Answer → ℕ
+answer_number (Ok _) = 0
+answer_number (Err r) = refusal_number r

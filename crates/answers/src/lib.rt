@@ -1,14 +1,12 @@
-// What the calls answer, and the number of each answer.
+// What the calls refuse, and the number of each refusal.
 #![tactic(auto)]
 
 ghost use Rattle.std.specs.Prelude.{◌≡◌};
-ghost use Rattle.answers.specs.Answers.{refusal_number};
-ghost use Rattle.answers.specs.Refusals.{is_accepted};
+ghost use Rattle.answers.specs.Answers.{refusal_number, answer_number};
 
-// What a call answers. The numbers of document 01 stand in specs/Answers.antt.
-#[derive(Clone, Copy)]
-pub enum Answer {
-    Accepted,
+// What a call refuses. The numbers of document 01 stand in specs/Answers.antt. A call answers with a Result: its value, or its refusal.
+#[derive(Clone, Copy, Debug, PartialEq, Eq)]
+pub enum Refusal {
     BadLayout,
     CountOutOfLimits,
     BadEdge,
@@ -29,37 +27,42 @@ pub enum Answer {
     InputTooLong,
 }
 
-// The number of an answer: 0, or the refusal number.
-#[tactic(auto, unfolding(crate::specs::Answers::refusal_number))]
-pub fn refusal_number(a: Answer) -> u16
-    ensures { result ≡ refusal_number a }
-{
-    match a {
-        Answer::Accepted => 0,
-        Answer::BadLayout => 1,
-        Answer::CountOutOfLimits => 2,
-        Answer::BadEdge => 3,
-        Answer::BadRotation => 4,
-        Answer::BadRoot => 5,
-        Answer::Cyclic => 6,
-        Answer::BadPoles => 7,
-        Answer::NotPlanar => 8,
-        Answer::NotSound => 9,
-        Answer::NotInSheet => 10,
-        Answer::Full => 11,
-        Answer::RootEdge => 12,
-        Answer::CornersApart => 13,
-        Answer::ClosesCircle => 14,
-        Answer::EdgeNeeded => 15,
-        Answer::VertexNeeded => 16,
-        Answer::BufferTooShort => 17,
-        Answer::InputTooLong => 18,
+impl Refusal {
+    // The refusal number.
+    #[tactic(auto, unfolding(crate::specs::Answers::refusal_number))]
+    pub fn number(self) -> u16
+        ensures { result ≡ refusal_number self }
+    {
+        match self {
+            Refusal::BadLayout => 1,
+            Refusal::CountOutOfLimits => 2,
+            Refusal::BadEdge => 3,
+            Refusal::BadRotation => 4,
+            Refusal::BadRoot => 5,
+            Refusal::Cyclic => 6,
+            Refusal::BadPoles => 7,
+            Refusal::NotPlanar => 8,
+            Refusal::NotSound => 9,
+            Refusal::NotInSheet => 10,
+            Refusal::Full => 11,
+            Refusal::RootEdge => 12,
+            Refusal::CornersApart => 13,
+            Refusal::ClosesCircle => 14,
+            Refusal::EdgeNeeded => 15,
+            Refusal::VertexNeeded => 16,
+            Refusal::BufferTooShort => 17,
+            Refusal::InputTooLong => 18,
+        }
     }
 }
 
-// Whether the answer is acceptance.
-pub fn is_accepted(a: Answer) -> bool
-    ensures { result ≡ is_accepted a }
+// The number of an answer: 0 for acceptance, else the refusal number.
+#[tactic(auto, unfolding(crate::specs::Answers::answer_number))]
+pub fn answer_number(answer: Result<(), Refusal>) -> u16
+    ensures { result ≡ answer_number answer }
 {
-    refusal_number(a) == 0
+    match answer {
+        Ok(()) => 0,
+        Err(refusal) => refusal.number(),
+    }
 }

@@ -1,4 +1,5 @@
 -- Each clause of soundness over the arrays; what the answer is by them. Assumes nothing.
+use Rattle.std.specs.Prelude.{Result, Ok, Err, is_ok}
 use Prim.Native.Nat.{ℕ, ◌+◌, ◌*◌, ◌≤◌, ◌<◌}
 use mathlib.Core.Path.{◌≡◌, refl, sym, ap, ◌∙◌}
 use mathlib.Core.Logic.{◌≢◌}
@@ -18,14 +19,14 @@ use Rattle.digraph.specs.Digraph.{Within, flat}
 use Rattle.digraph.specs.Relaxed.{within_of, climbs, rounds, answer, levels_of}
 use Rattle.digraph.proofs.Tests.{within_is}
 use Rattle.sheet.specs.declared.Sheet.{Sheet}
-use Rattle.answers.specs.declared.Answer.{Answer}
-use Rattle.answers.specs.declared.Answer.TheVariants.{Accepted, BadRoot, Cyclic, BadPoles, NotPlanar, NotSound}
+use Rattle.answers.specs.declared.Refusal.{Refusal}
+use Rattle.answers.specs.declared.Refusal.TheVariants.{BadRoot, Cyclic, BadPoles, NotPlanar, NotSound}
 use Rattle.sheet.specs.declared.Findings.{Findings}
-use Rattle.answers.specs.Answers.{refusal_number}
-use Rattle.answers.specs.Refusals.{first, is_accepted, ◌if◌}
+use Rattle.answers.specs.Answers.{Answer}
+use Rattle.answers.specs.Refusals.{first, is_accepted, ◌if◌, answering}
 use Rattle.sheet.specs.Darts.{tail, head, darts}
 use Rattle.sheet.specs.Check.{within_limits, joined, in_rings, unused_zero, rooted, row_levels, acyclic, incoming, outgoing, poles, face_table, planar, sound, judge}
-use Rattle.sheet.specs.Inner.{refused, accepted, bounded, faced_of, judged_of, findings_of}
+use Rattle.sheet.specs.Inner.{found, bounded, faced_of, judged_of, findings_of}
 use Rattle.clauses.proofs.Touching.{joins_means}
 use Rattle.clauses.specs.Inner.{limits_of, joins_at, zero_at, unused_of, Ends, dart_table, walk_of, end_of, pole_at, poles_of, rooted_of}
 use Rattle.rings.specs.Inner.{rings_of, ring_levels}
@@ -63,24 +64,24 @@ pub few_orbits : (n : ℕ) (step : List ℕ) (f : Traced) → f ≡ traced n ste
 few_orbits n step f e = rw e (count_law n step)
 
 -- by the number of faces
-faced_is : (otherwise : Answer) (s : Sheet) → faced_of otherwise s.vertices s.edges s.nexts (row_levels s).level ≡ cond (planar s) (accepted s) (refused otherwise)
-unfolding faced_of planar accepted face_table dart_table walk_of
+faced_is : (otherwise : Refusal) (s : Sheet) → faced_of otherwise s.vertices s.edges s.nexts (row_levels s).level ≡ cond (planar s) (Ok (found s)) (Err otherwise)
+unfolding faced_of planar found face_table dart_table walk_of
 faced_is otherwise s = refl
 
-judged_by : (s : Sheet) → rooted s ≡ true → acyclic s ≡ true → poles s ≡ true → cond (planar s) (accepted s) (refused NotPlanar) ≡ judged_of s
-unfolding judged_of judge first is_accepted refusal_number
+judged_by : (s : Sheet) → rooted s ≡ true → acyclic s ≡ true → poles s ≡ true → cond (planar s) (Ok (found s)) (Err NotPlanar) ≡ judged_of s
+unfolding judged_of judge first answering
 judged_by s r a p = rw (r, a, p) (by_bool (planar s) (λ t. rw t refl) (λ t. rw t refl))
 
-pub face_refused : (otherwise : Answer) (n m : ℕ) (nexts rows walk : List ℕ) → walk ≡ dart_table (walk_of nexts) (2 * m) → (f : Traced) → f ≡ traced (2 * m) walk → (n + f.count ≡ m + 2 → ⊥)
-    → refused otherwise ≡ faced_of otherwise n m nexts rows
+pub face_refused : (otherwise : Refusal) (n m : ℕ) (nexts rows walk : List ℕ) → walk ≡ dart_table (walk_of nexts) (2 * m) → (f : Traced) → f ≡ traced (2 * m) walk → (n + f.count ≡ m + 2 → ⊥)
+    → Err otherwise ≡ faced_of otherwise n m nexts rows
 unfolding faced_of
 face_refused otherwise n m nexts rows walk we f fe q =
     let z = fe ∙ ap (traced (2 * m)) we in
     let b = ne_eqb (n + f.count) (m + 2) q in
     rw (← z, b) refl
 
-pub face_met : (otherwise : Answer) (n m : ℕ) (nexts rows walk : List ℕ) → walk ≡ dart_table (walk_of nexts) (2 * m) → (f : Traced) → f ≡ traced (2 * m) walk → n + f.count ≡ m + 2
-    → record { answer = Accepted; rows = rows; faces = f.orbit; count = f.count } ≡ faced_of otherwise n m nexts rows
+pub face_met : (otherwise : Refusal) (n m : ℕ) (nexts rows walk : List ℕ) → walk ≡ dart_table (walk_of nexts) (2 * m) → (f : Traced) → f ≡ traced (2 * m) walk → n + f.count ≡ m + 2
+    → Ok (record { rows = rows; faces = f.orbit; count = f.count }) ≡ faced_of otherwise n m nexts rows
 unfolding faced_of
 face_met otherwise n m nexts rows walk we f fe q =
     let z = fe ∙ ap (traced (2 * m)) we in
@@ -109,8 +110,8 @@ module _ (n m : ℕ) (tails heads : List ℕ) where
       (w.few_nodes, record { few = w.few_edges; inside = λ k h. omega (arith, w.from_in k h) }, record { few = w.few_edges; inside = λ k h. omega (arith, w.to_in k h) })
 
   module _ (nexts : List ℕ) where
-    pub bad_root : rooted_of tails heads ≡ false → refused BadRoot ≡ judged_of (sheet_of n m tails heads nexts)
-    unfolding judged_of judge first is_accepted refusal_number rooted rooted_of
+    pub bad_root : rooted_of tails heads ≡ false → Err BadRoot ≡ judged_of (sheet_of n m tails heads nexts)
+    unfolding judged_of judge first answering rooted rooted_of
     bad_root r = rw r refl
 
     module _ (r : rooted_of tails heads ≡ true) (l : Layering) (le : l ≡ levels_of n m tails heads) where
@@ -118,16 +119,16 @@ module _ (n m : ℕ) (tails heads : List ℕ) where
       unfolding acyclic row_levels
       acyclic_is = ap (λ (x : Layering). x.acyclic) (sym le)
 
-      pub cyclic : l.acyclic ≡ false → refused Cyclic ≡ judged_of (sheet_of n m tails heads nexts)
-      unfolding judged_of judge first is_accepted refusal_number rooted rooted_of
+      pub cyclic : l.acyclic ≡ false → Err Cyclic ≡ judged_of (sheet_of n m tails heads nexts)
+      unfolding judged_of judge first answering rooted rooted_of
       cyclic a = rw (r, acyclic_is, a) refl
 
       module _ (a : l.acyclic ≡ true) where
-        pub bad_poles : poles_of n m tails heads ≡ false → refused BadPoles ≡ judged_of (sheet_of n m tails heads nexts)
-        unfolding judged_of judge first is_accepted refusal_number rooted rooted_of
+        pub bad_poles : poles_of n m tails heads ≡ false → Err BadPoles ≡ judged_of (sheet_of n m tails heads nexts)
+        unfolding judged_of judge first answering rooted rooted_of
         bad_poles p = rw (r, acyclic_is, a, poles_is (sheet_of n m tails heads nexts), p) refl
 
-        pub by_faces : poles_of n m tails heads ≡ true → (f : Findings) → f ≡ faced_of NotPlanar n m nexts l.level → f ≡ judged_of (sheet_of n m tails heads nexts)
+        pub by_faces : poles_of n m tails heads ≡ true → (f : Result Findings Refusal) → f ≡ faced_of NotPlanar n m nexts l.level → f ≡ judged_of (sheet_of n m tails heads nexts)
         unfolding row_levels rooted rooted_of
         by_faces p f e =
             let s = sheet_of n m tails heads nexts in
@@ -144,22 +145,24 @@ bounded_ends s t =
     (n, m, λ b h. joined_ends s.vertices s.edges s.tails s.heads b h m j)
 
 module _ (s : Sheet) where
-  pub judged_answer : (judged_of s).answer ≡ judge s
-  unfolding judged_of accepted refused judge first is_accepted refusal_number
-  judged_answer = go (rooted s) (acyclic s) (poles s) (planar s)
+  pub judged_refused : (r : Refusal) → judged_of s ≡ Err r → judge s ≡ Err r
+  unfolding judged_of answering
+  judged_refused r = go (judge s)
     where
-      j : Bool → Bool → Bool → Bool → Answer
-      j r a p q = first (BadRoot if not r ∷ Cyclic if not a ∷ BadPoles if not p ∷ NotPlanar if not q ∷ [])
+      go : (a : Answer) → answering a (λ _. found s) ≡ Err r → a ≡ Err r
+      go (Ok u) e = cc e
+      go (Err q) e = cc e
 
-      go : (r a p q : Bool) → (cond (is_accepted (j r a p q)) (accepted s) (refused (j r a p q))).answer ≡ j r a p q
-      go false a p q = refl
-      go true false p q = refl
-      go true true false q = refl
-      go true true true false = refl
-      go true true true true = refl
+  pub judged_accepted : (f : Findings) → judged_of s ≡ Ok f → judge s ≡ Ok tt
+  unfolding judged_of answering
+  judged_accepted f = go (judge s)
+    where
+      go : (a : Answer) → answering a (λ _. found s) ≡ Ok f → a ≡ Ok tt
+      go (Ok u) e = refl
+      go (Err r) e = cc e
 
   -- a clause fails
-  pub not_sound : (sound s ≡ true → ⊥) → refused NotSound ≡ findings_of s
+  pub not_sound : (sound s ≡ true → ⊥) → Err NotSound ≡ findings_of s
   unfolding findings_of
   not_sound f = by_bool (sound s) (λ t. absurd (f t)) (λ t. rw t refl)
 
@@ -206,7 +209,7 @@ module _ (s : Sheet) where
           (λ t. let q : l ≡ record { acyclic = false; level = flat } = e ∙ rw t refl in absurd (true≢false (sym a ∙ ap (λ (x : Layering). x.acyclic) q)))
 
       pub by_all : bounded s ≡ true → rooted_of s.tails s.heads ≡ true → poles_of s.vertices s.edges s.tails s.heads ≡ true
-          → (f : Findings) → f ≡ faced_of NotSound s.vertices s.edges s.nexts l.level → f ≡ findings_of s
+          → (f : Result Findings Refusal) → f ≡ faced_of NotSound s.vertices s.edges s.nexts l.level → f ≡ findings_of s
       unfolding findings_of sound bounded rooted rooted_of acyclic
       by_all b r p f q =
           let rows = with_rings rings_in_law in
@@ -215,6 +218,6 @@ module _ (s : Sheet) where
           q ∙ ap (λ (z : Layering). faced_of NotSound s.vertices s.edges s.nexts z.level) rows ∙ faced_is NotSound s
           ∙ rw (y, j, rings_are s ∙ rings_in_law, u, r, ap (λ (z : Layering). z.acyclic) (sym rows) ∙ a, poles_is s ∙ p) refl
 
-  pub findings_answer : is_accepted (findings_of s).answer ≡ sound s
-  unfolding findings_of accepted refused is_accepted refusal_number
+  pub findings_answer : is_ok (findings_of s) ≡ sound s
+  unfolding findings_of
   findings_answer = by_bool (sound s) (λ t. rw t refl) (λ t. rw t refl)

@@ -7,8 +7,8 @@ use Rattle.orbits.specs.Tables.{traced, is_permutation}
 use Rattle.digraph.specs.declared.Layering.{Layering}
 use Rattle.digraph.specs.Relaxed.{levels_of}
 use Rattle.sheet.specs.declared.Sheet.{Sheet}
-use Rattle.answers.specs.declared.Answer.{Answer}
-use Rattle.answers.specs.declared.Answer.TheVariants.{BadRoot, Cyclic, BadPoles, NotPlanar}
+use Rattle.answers.specs.Answers.{Answer}
+use Rattle.answers.specs.declared.Refusal.TheVariants.{BadRoot, Cyclic, BadPoles, NotPlanar}
 use Rattle.answers.specs.Refusals.{first, ◌if◌}
 use Rattle.clauses.specs.Darts.{tail_dart, head_dart}
 use Rattle.sheet.specs.Darts.{tail, head, darts, vertex, next, walk}

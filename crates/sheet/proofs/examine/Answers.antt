@@ -1,17 +1,15 @@
 -- `sheet::examine` meets its contract: a clause that fails makes the record unsound, whatever the order. Assumes nothing.
-use mathlib.Core.Path.{◌≡◌, sym, ◌∙◌}
-use mathlib.Core.Bool.{true}
-use native.Mathlib.Omega.{arith}
+use Rattle.std.proofs.Common.{◌≡◌, sym, ◌∙◌, true, arith}
 use borrow.Author.Tests.{not-true, not-false}
 use Rattle.sheet.specs.Inner.{bounded}
 use Rattle.sheet.proofs.Clauses.{bounded_ends, not_sound, not_bounded, not_rooted, no_poles, no_levels, by_all}
 use Rattle.sheet.proofs.examine.Goals as goal
 
 pub returns-then-not-is_bounded : goal.returns-then-not-is_bounded
-returns-then-not-is_bounded c = c.refuse.ensures ∙ not_sound _ (not_bounded _ (sym c.is_bounded.ensures ∙ c.if-not-is_bounded.true))
+returns-then-not-is_bounded c = not_sound _ (not_bounded _ (sym c.is_bounded.ensures ∙ c.if-not-is_bounded.true))
 
 pub returns-then-not-is_rooted : goal.returns-then-not-is_rooted
-returns-then-not-is_rooted c = c.refuse-then-not-is_rooted.ensures ∙ not_sound _ (not_rooted _ (sym c.is_rooted.ensures ∙ c.if-not-is_rooted.true))
+returns-then-not-is_rooted c = not_sound _ (not_rooted _ (sym c.is_rooted.ensures ∙ c.if-not-is_rooted.true))
 
 pub has_poles-requires : goal.has_poles-requires
 has_poles-requires c =
@@ -21,7 +19,7 @@ has_poles-requires c =
     (omega arith, t, h)
 
 pub returns-then-not-has_poles : goal.returns-then-not-has_poles
-returns-then-not-has_poles c = c.refuse-then-not-has_poles.ensures ∙ not_sound _ (no_poles _ (sym c.has_poles.ensures ∙ c.if-not-has_poles.true))
+returns-then-not-has_poles c = not_sound _ (no_poles _ (sym c.has_poles.ensures ∙ c.if-not-has_poles.true))
 
 pub levels-levels-requires : goal.levels-levels-requires
 levels-levels-requires c =
@@ -31,7 +29,7 @@ levels-levels-requires c =
     (n, t, h)
 
 pub returns-then-not-levels : goal.returns-then-not-levels
-returns-then-not-levels c = c.refuse-then-not-levels.ensures ∙ not_sound _ (no_levels _ _ c.levels-levels.ensures (not-true _ c.if-not-levels.true))
+returns-then-not-levels c = not_sound _ (no_levels _ _ c.levels-levels.ensures (not-true _ c.if-not-levels.true))
 
 pub faced-requires : goal.faced-requires
 faced-requires c =

@@ -1,22 +1,28 @@
 -- `sheet::is_bounded` meets its contract. Clause by clause, in order. Assumes nothing.
-use mathlib.Core.Path.{refl, sym, ◌∙◌}
+use Rattle.std.proofs.Common.{refl, sym, ◌∙◌}
 use Rattle.sheet.proofs.Clauses.{bounded_is, limits_most}
 use Rattle.sheet.proofs.is_bounded.Goals as goal
-
-pub returns-then-not-within_limits : goal.returns-then-not-within_limits
-returns-then-not-within_limits c = rw (bounded_is, sym c.within_limits.ensures ∙ c.if-not-within_limits.true) refl
+use Rattle.sheet.proofs.is_bounded.Goals.{then-within_limits, else-within_limits}
 
 pub all_join-requires : goal.all_join-requires
-all_join-requires c = (limits_most _ _ (sym c.within_limits.ensures ∙ c.if-not-within_limits.false)).1
-
-pub returns-then-not-all_join : goal.returns-then-not-all_join
-returns-then-not-all_join c =
-    rw (bounded_is, sym c.within_limits.ensures ∙ c.if-not-within_limits.false, sym c.all_join.ensures ∙ c.if-not-all_join.true) refl
+all_join-requires c = (limits_most _ _ (sym c.within_limits.ensures ∙ c.if-within_limits.true)).1
 
 pub unused_zero-requires : goal.unused_zero-requires
-unused_zero-requires c =
-    (limits_most _ _ (sym c.within_limits.ensures ∙ c.if-not-within_limits.false)).1
+unused_zero-requires c = elim c.if-within_limits.branch [
+  | then-within_limits w ↦ (limits_most _ _ (sym c.within_limits.ensures ∙ w.if-within_limits.true)).1
+  | else-within_limits w ↦ cc (w.value-is, c.if-all_join.true)
+]
 
-pub returns : goal.returns
-returns c =
-    rw (bounded_is, sym c.within_limits.ensures ∙ c.if-not-within_limits.false, sym c.all_join.ensures ∙ c.if-not-all_join.false) c.unused_zero.ensures
+pub returns-then-all_join : goal.returns-then-all_join
+returns-then-all_join c = elim c.if-within_limits.branch [
+  | then-within_limits w ↦
+      rw (bounded_is, sym c.within_limits.ensures ∙ w.if-within_limits.true, sym w.all_join.ensures ∙ sym w.value-is ∙ c.if-all_join.true) c.unused_zero.ensures
+  | else-within_limits w ↦ cc (w.value-is, c.if-all_join.true)
+]
+
+pub returns-else-all_join : goal.returns-else-all_join
+returns-else-all_join c = elim c.if-within_limits.branch [
+  | then-within_limits w ↦
+      c.if-all_join.false ∙ sym (rw (bounded_is, sym c.within_limits.ensures ∙ w.if-within_limits.true, sym w.all_join.ensures ∙ sym w.value-is ∙ c.if-all_join.false) refl)
+  | else-within_limits w ↦ w.value-is ∙ w.if-within_limits.false ∙ sym (rw (bounded_is, sym c.within_limits.ensures ∙ w.if-within_limits.false) refl)
+]
