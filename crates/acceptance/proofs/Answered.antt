@@ -12,7 +12,7 @@ use lib.ListN.{get_or, length, length-append}
 use Rattle.clauses.specs.Darts.{touches_of}
 use Rattle.text.specs.Reading.{line_at}
 use Rattle.text.specs.Keys.{bars_key, wires_key, wire_key, around_key}
-use Rattle.answers.specs.declared.Answer.TheVariants.{BadRoot, Cyclic, BadPoles, NotPlanar}
+use Rattle.answers.specs.declared.Refusal.TheVariants.{BadRoot, Cyclic, BadPoles, NotPlanar}
 use Rattle.answers.specs.Answers.{refusal_number}
 use Rattle.answers.specs.Refusals.{◌if◌, is_accepted}
 use Rattle.answers.specs.Clauses.{First}

@@ -1,4 +1,5 @@
 -- Load accepts exactly the texts that begin with a sound sheet, each ring turned anyhow, with line ends of both kinds. Assumes nothing.
+use Rattle.std.specs.Prelude.{Ok}
 use mathlib.Core.Path.{◌≡◌, refl, sym, ◌∙◌, ap, subst}
 use mathlib.Core.Logic.{by_cases}
 use mathlib.Core.List.{List, [], ◌∷◌, ◌++◌}
@@ -12,7 +13,6 @@ use Rattle.counting.specs.Below.{join_below}
 use Rattle.text.specs.Written.{line}
 use Rattle.text.specs.Keys.{bars_key, wires_key, wire_key, around_key}
 use Rattle.layout.specs.Mixed.{MixedEnds}
-use Rattle.answers.specs.declared.Answer.TheVariants.{Accepted}
 use Rattle.answers.specs.Answers.{refusal_number}
 use Rattle.sheet.specs.declared.Sheet.{Sheet}
 use Rattle.sheet.specs.Darts.{dart_at, tail, head}
@@ -109,7 +109,7 @@ module _ (n : ℕ) (tails heads : List ℕ) (rings : List (List ℕ)) (s : Sheet
     whole = front_splits text F.bytes F.holds;
   }
 
-load_begins : (text : List ℕ) (present : Sheet) → (load text present).answer ≡ Accepted → Begins text
+load_begins : (text : List ℕ) (present : Sheet) → (load text present).answer ≡ Ok tt → Begins text
 unfolding result refusal_number
 load_begins text present e =
     let all = all_lines text present (result present (parse text)) (ap refusal_number e) (load_answered text present) in

@@ -1,7 +1,6 @@
 -- Which texts load accepts, and which number falls otherwise.
-use Rattle.std.specs.Prelude.{◌≡◌, ◌↔◌, List, ◌++◌, ℕ, length, take, drop}
+use Rattle.std.specs.Prelude.{◌≡◌, ◌↔◌, List, ◌++◌, ℕ, length, take, drop, Ok}
 use Rattle.layout.specs.Mixed.{MixedEnds}
-use Rattle.answers.specs.declared.Answer.TheVariants.{Accepted}
 use Rattle.answers.specs.Answers.{refusal_number}
 use Rattle.sheet.specs.declared.Sheet.{Sheet}
 use Rattle.sheet.specs.Darts.{Sized}
@@ -41,9 +40,9 @@ pub record Begins (text : List ℕ) : Type 0 where
 
 -- Load accepts exactly these texts.
 abbrev pub LoadAccepts : Type 0
-LoadAccepts = (text : List ℕ) (present : Sheet) → (load text present).answer ≡ Accepted ↔ Begins text
+LoadAccepts = (text : List ℕ) (present : Sheet) → (load text present).answer ≡ Ok tt ↔ Begins text
 
 -- It gives that sheet, and takes its bytes.
 abbrev pub LoadGives : Type 0
 LoadGives = (s : Sheet) → Sized s → Sound s → (turn : ℕ → ℕ) (lines : List ℕ) → MixedEnds (turned_text s turn) lines → (rest : List ℕ) (present : Sheet)
-    → load (lines ++ rest) present ≡ record { answer = Accepted; sheet = s; taken = length lines }
+    → load (lines ++ rest) present ≡ record { answer = Ok tt; sheet = s; taken = length lines }

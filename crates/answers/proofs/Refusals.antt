@@ -1,9 +1,9 @@
 -- Which refusal falls, and what acceptance says. Assumes nothing.
-use Rattle.std.proofs.Common.{◌≡◌, refl, ◌↔◌, Bool, true, false, not, List, [], ◌∷◌, Ok, Err}
+use Rattle.std.proofs.Common.{◌≡◌, refl, ◌↔◌, Bool, true, false, not, List, [], ◌∷◌, Result, Ok, Err}
 use Rattle.std.proofs.lemmas.Bool.{false≢true}
 use Rattle.answers.specs.declared.Refusal.{Refusal}
 use Rattle.answers.specs.Answers.{Answer}
-use Rattle.answers.specs.Refusals.{Test, first, ◌if◌, is_accepted}
+use Rattle.answers.specs.Refusals.{Test, first, ◌if◌, is_accepted, answering}
 
 -- where nothing refuses
 pub accepts_none : first [] ≡ Ok tt
@@ -26,3 +26,13 @@ passed r false ts e = (refl, e)
 pub accepted_is : (a : Answer) → is_accepted a ≡ true → a ≡ Ok tt
 accepted_is (Ok tt) e = refl
 accepted_is (Err r) e = absurd (false≢true e)
+
+-- what a call hands out where it is refused, and where it is accepted
+module _ {A : Type 0} (a : Answer) (value : Unit {0} → A) where
+  pub answering_refused : (r : Refusal) → a ≡ Err r → Err r ≡ answering a value
+  unfolding answering
+  answering_refused r e = rw e refl
+
+  pub answering_accepted : a ≡ Ok tt → (v : A) → v ≡ value tt → Ok v ≡ answering a value
+  unfolding answering
+  answering_accepted e v q = rw (e, q) refl

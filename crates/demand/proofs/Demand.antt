@@ -1,12 +1,12 @@
 -- Demand 3: every list of loads and edits. Assumes nothing.
+use Rattle.std.specs.Prelude.{Ok}
 use Prim.Native.Nat.{ℕ}
 use mathlib.Core.Path.{◌≡◌, refl}
 use mathlib.Core.Logic.{◌≢◌}
 use mathlib.Core.Bool.{true, false}
 use mathlib.Core.List.{List, [], ◌∷◌}
 use Rattle.counting.proofs.Iterate.{by_bool, clash}
-use Rattle.answers.specs.declared.Answer.{Answer}
-use Rattle.answers.specs.declared.Answer.TheVariants.{Accepted}
+use Rattle.answers.specs.Answers.{Answer}
 use Rattle.answers.specs.Answers.{refusal_number}
 use Rattle.answers.specs.Refusals.{is_accepted}
 use Rattle.answers.specs.Clauses.{Clause, First}
@@ -47,7 +47,7 @@ Left A o = A × Whole o.sheet
 
 -- an edit, from its answer
 module _ (s : Sheet) (w : Whole s) (refusals : List Clause) (a : Answer) (made : Unit {0} → Sheet) (number : First refusals (refusal_number a)) where
-  edit_left : (a ≡ Accepted → Whole (made tt)) → Left (EditAnswered refusals s (made tt) (of_edit (edited a s made))) (of_edit (edited a s made))
+  edit_left : (a ≡ Ok tt → Whole (made tt)) → Left (EditAnswered refusals s (made tt) (of_edit (edited a s made))) (of_edit (edited a s made))
   unfolding edited
   edit_left good = by_bool (is_accepted a) accepts refuses
     where

@@ -11,7 +11,7 @@ use Rattle.counting.specs.Counts.{count}
 use Rattle.counting.proofs.Iterate.{not-false}
 use Rattle.counting.proofs.Counts.{count_onto}
 use Rattle.counting.proofs.Orbits.{kept_joined}
-use Rattle.answers.specs.declared.Answer.TheVariants.{NotSound, NotInSheet, Full, RootEdge, CornersApart, ClosesCircle, EdgeNeeded, VertexNeeded}
+use Rattle.answers.specs.declared.Refusal.TheVariants.{NotSound, NotInSheet, Full, RootEdge, CornersApart, ClosesCircle, EdgeNeeded, VertexNeeded}
 use Rattle.answers.specs.Answers.{refusal_number}
 use Rattle.answers.specs.Clauses.{First}
 use Rattle.answers.proofs.Clauses.{first_number}

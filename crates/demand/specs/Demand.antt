@@ -1,7 +1,6 @@
 -- Demand 3 as one statement over every list of loads and edits from the fresh sheet.
-use Rattle.std.specs.Prelude.{◌≡◌, List, [], ◌∷◌}
+use Rattle.std.specs.Prelude.{◌≡◌, List, [], ◌∷◌, Ok}
 use Rattle.sheet.specs.declared.Sheet.{Sheet}
-use Rattle.answers.specs.declared.Answer.TheVariants.{Accepted}
 use Rattle.sheet.specs.Sound.{Sound}
 use Rattle.sheet.specs.Fresh.{fresh_sheet}
 use Rattle.drawing.specs.Draw.{draw_call, drawing_of}
@@ -20,7 +19,7 @@ pub data Each : Sheet → List Call → List Outcome → Sheet → Type 0 where
 pub record Holds (cs : List Call) : Type 0 where
   pub answers : Each fresh_sheet cs (outcomes fresh_sheet cs) (after_calls cs)
   pub sound : Sound (after_calls cs)
-  pub drawn : draw_call (after_calls cs) ≡ record { answer = Accepted; drawing = drawing_of (after_calls cs) }
+  pub drawn : draw_call (after_calls cs) ≡ record { answer = Ok tt; drawing = drawing_of (after_calls cs) }
   pub laid : Laid (after_calls cs) (drawing_of (after_calls cs))
   pub correct : Correct (after_calls cs) (drawing_of (after_calls cs))
 

@@ -1,13 +1,13 @@
 -- What draw answers, from what the check of the sheet finds. Assumes nothing.
+use Rattle.std.specs.Prelude.{Ok}
 use Prim.Native.Nat.{ℕ, ◌<◌, ◌≤◌}
 use mathlib.Core.Path.{◌≡◌, refl, sym, ap, ◌∙◌}
 use mathlib.Core.Bool.{Bool, true, false}
 use native.Mathlib.Omega.{arith}
 use Rattle.sheet.specs.declared.Sheet.{Sheet}
 use Rattle.sheet.specs.declared.Findings.{Findings}
-use Rattle.answers.specs.declared.Answer.{Answer}
-use Rattle.answers.specs.declared.Answer.TheVariants.{Accepted, NotSound}
-use Rattle.answers.specs.Answers.{refusal_number}
+use Rattle.answers.specs.declared.Refusal.TheVariants.{NotSound}
+use Rattle.answers.specs.Answers.{Answer, refusal_number}
 use Rattle.answers.specs.Refusals.{first, is_accepted}
 use Rattle.sheet.specs.Darts.{Sized}
 use Rattle.sheet.specs.Sound.{Sound}
@@ -27,7 +27,7 @@ module _ (s : Sheet) where
   unfolding draw_call draw_answer first is_accepted refusal_number
   not_sound t d e = rw (t, e) refl
 
-  pub is_sound : sound s ≡ true → (d : Drawing) → d ≡ drawing_of s → drawn Accepted d ≡ draw_call s
+  pub is_sound : sound s ≡ true → (d : Drawing) → d ≡ drawing_of s → drawn Ok tt d ≡ draw_call s
   unfolding draw_call draw_answer first is_accepted refusal_number
   is_sound t d e = rw (t, e) refl
 

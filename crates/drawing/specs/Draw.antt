@@ -3,8 +3,8 @@ use Rattle.std.specs.Prelude.{ℕ, ◌+◌, ◌-◌, min, max, not, cond, List, 
 use Rattle.counting.specs.Below.{list_below, tabulate}
 use Rattle.counting.specs.Choice.{pick}
 use Rattle.sheet.specs.declared.Sheet.{Sheet}
-use Rattle.answers.specs.declared.Answer.{Answer}
-use Rattle.answers.specs.declared.Answer.TheVariants.{NotSound}
+use Rattle.answers.specs.Answers.{Answer}
+use Rattle.answers.specs.declared.Refusal.TheVariants.{NotSound}
 use Rattle.answers.specs.Refusals.{first, ◌if◌, is_accepted}
 use Rattle.clauses.specs.Darts.{tail_dart, head_dart}
 use Rattle.sheet.specs.Darts.{tail, head, touches}

@@ -1,17 +1,16 @@
--- The four edits as calls: what each refuses, in order, and the sheet afterwards.
-use Rattle.std.specs.Prelude.{ℕ, Bool, not, ◌&&◌, ◌||◌, [], ◌∷◌, eqb, leb}
+-- The four edits as calls: what each refuses, in order, and the sheet that it makes.
+use Rattle.std.specs.Prelude.{ℕ, Bool, not, ◌&&◌, ◌||◌, [], ◌∷◌, eqb, leb, Result, Ok, Err}
 use Rattle.counting.specs.Counts.{count}
-use Rattle.counting.specs.Choice.{pick}
 use Rattle.sheet.specs.declared.Sheet.{Sheet}
-use Rattle.answers.specs.declared.Answer.{Answer}
-use Rattle.answers.specs.declared.Answer.TheVariants.{NotSound, NotInSheet, Full, RootEdge, CornersApart, ClosesCircle, EdgeNeeded, VertexNeeded}
-use Rattle.answers.specs.Refusals.{first, ◌if◌, is_accepted}
+use Rattle.answers.specs.Answers.{Answer}
+use Rattle.answers.specs.declared.Refusal.{Refusal}
+use Rattle.answers.specs.declared.Refusal.TheVariants.{NotSound, NotInSheet, Full, RootEdge, CornersApart, ClosesCircle, EdgeNeeded, VertexNeeded}
+use Rattle.answers.specs.Refusals.{first, ◌if◌, answering}
 use Rattle.clauses.specs.Darts.{opposite}
 use Rattle.sheet.specs.Darts.{tail, head, touches, dart_at}
 use Rattle.sheet.specs.Check.{sound, face}
 use Rattle.edit.specs.declared.Edit.{Edit}
 use Rattle.edit.specs.declared.Edit.TheVariants.{In, Run, Out, Off, Refused}
-use Rattle.edit.specs.declared.Edited.{Edited}
 use Rattle.edit.specs.Lines.{edit_answer}
 use Rattle.edit.specs.Reaching.{leads_to}
 use Rattle.edit.specs.Changes.{put_in, run_edge, take_out_edge, take_out_vertex}
@@ -67,26 +66,28 @@ take_out_vertex_answer s v = first (
     NotInSheet if no_vertex s v ∷
     VertexNeeded if (eqb v 0 || eqb v 1 || not (eqb (in_degree s v) 1 && eqb (out_degree s v) 1)) ∷ [])
 
--- A refused edit hands back the sheet it got.
-unfoldable pub edited : Answer → Sheet → (Unit {0} → Sheet) → Edited
-edited a s after = pick (is_accepted a) (λ _. record { answer = a; sheet = after tt }) (λ _. record { answer = a; sheet = s })
+-- what each answers: the sheet that it makes, or its refusal
+abbrev pub put_in_call : Sheet → ℕ → Result Sheet Refusal
+put_in_call s k = answering (put_in_answer s k) (λ _. put_in s k)
 
-abbrev pub put_in_call : Sheet → ℕ → Edited
-put_in_call s k = edited (put_in_answer s k) s (λ _. put_in s k)
+abbrev pub run_call : Sheet → ℕ → ℕ → ℕ → ℕ → Result Sheet Refusal
+run_call s a p b q = answering (run_answer s a p b q) (λ _. run_edge s a p b q)
 
-abbrev pub run_call : Sheet → ℕ → ℕ → ℕ → ℕ → Edited
-run_call s a p b q = edited (run_answer s a p b q) s (λ _. run_edge s a p b q)
+abbrev pub take_out_edge_call : Sheet → ℕ → Result Sheet Refusal
+take_out_edge_call s k = answering (take_out_edge_answer s k) (λ _. take_out_edge s k)
 
-abbrev pub take_out_edge_call : Sheet → ℕ → Edited
-take_out_edge_call s k = edited (take_out_edge_answer s k) s (λ _. take_out_edge s k)
-
-abbrev pub take_out_vertex_call : Sheet → ℕ → Edited
-take_out_vertex_call s v = edited (take_out_vertex_answer s v) s (λ _. take_out_vertex s v)
+abbrev pub take_out_vertex_call : Sheet → ℕ → Result Sheet Refusal
+take_out_vertex_call s v = answering (take_out_vertex_answer s v) (λ _. take_out_vertex s v)
 
 -- an edit that was read, applied: a line not of the layout is refused 1
-unfoldable pub apply : Sheet → Edit → Edited
+unfoldable pub apply : Sheet → Edit → Result Sheet Refusal
 apply s (In k) = put_in_call s k
 apply s (Run a p b q) = run_call s a p b q
 apply s (Out k) = take_out_edge_call s k
 apply s (Off v) = take_out_vertex_call s v
-apply s Refused = record { answer = edit_answer Refused; sheet = s }
+apply s Refused = answering (edit_answer Refused) (λ _. s)
+
+-- A refused edit hands back the sheet it got.
+unfoldable pub sheet_after : Sheet → Result Sheet Refusal → Sheet
+sheet_after s (Ok made) = made
+sheet_after s (Err r) = s

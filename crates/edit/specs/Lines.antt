@@ -1,10 +1,10 @@
 -- An edit line reads as one of four edits: `in=k`, `run=a,p,b,q`, `out=k`, `off=v`, with load's numbers and line ends; a last line may lack its end.
-use Rattle.std.specs.Prelude.{ℕ, suc, cond, List, [], ◌∷◌, eqb}
+use Rattle.std.specs.Prelude.{ℕ, suc, cond, List, [], ◌∷◌, eqb, Ok, Err}
 use Rattle.text.specs.Bytes.{bytes}
 use Rattle.text.specs.Reading.{last_line_at}
 use Rattle.text.specs.Shapes.{with_one, with_four}
-use Rattle.answers.specs.declared.Answer.{Answer}
-use Rattle.answers.specs.declared.Answer.TheVariants.{Accepted, BadLayout}
+use Rattle.answers.specs.Answers.{Answer}
+use Rattle.answers.specs.declared.Refusal.TheVariants.{BadLayout}
 use Rattle.edit.specs.declared.Edit.{Edit}
 use Rattle.edit.specs.declared.Edit.TheVariants.{In, Run, Out, Off, Refused}
 use Rattle.edit.specs.declared.EditRead.{EditRead}
@@ -39,12 +39,12 @@ line_length (b ∷ s) = cond (eqb b 10) 1 (suc (line_length s))
 
 -- Read edit refuses by 1 alone: line not of the layout.
 abbrev pub edit_answer : Edit → Answer
-edit_answer (In k) = Accepted
-edit_answer (Run a p b q) = Accepted
-edit_answer (Out k) = Accepted
-edit_answer (Off v) = Accepted
-edit_answer Refused = BadLayout
+edit_answer (In k) = Ok tt
+edit_answer (Run a p b q) = Ok tt
+edit_answer (Out k) = Ok tt
+edit_answer (Off v) = Ok tt
+edit_answer Refused = Err BadLayout
 
 -- Read edit
 unfoldable pub read_edit : List ℕ → EditRead
-read_edit text = record { answer = edit_answer (edit_of text); edit = edit_of text; taken = line_length text }
+read_edit text = record { edit = edit_of text; taken = line_length text }

@@ -2,11 +2,9 @@
 #![tactic(auto)]
 
 ghost use Rattle.std.specs.Prelude.{◌≡◌};
-ghost use Rattle.answers.specs.declared.Answer.TheVariants.{Accepted};
 ghost use Rattle.edit.specs.Lines.{edit_of, edit_answer, line_length, read_edit};
 
-use answers::Answer;
-use sheet::Sheet;
+use answers::Refusal;
 
 // An edit: put in (wire), run (bar, wire, bar, wire), take out a wire, take out a bar;
 // or the refusal of a line that is not of the layout.
@@ -19,35 +17,22 @@ pub enum Edit {
     Refused,
 }
 
-// What read edit answers: acceptance or 1, the edit, and how many bytes its line took.
+// What read edit answers: the edit, or the refusal of the line, and how many bytes the line took.
 #[derive(Clone, Copy)]
 pub struct EditRead {
-    pub answer: Answer,
     pub edit: Edit,
     pub taken: usize,
 }
 
-// What an edit answers: the sheet afterwards, or the sheet that it got where it refuses.
-#[derive(Clone, Copy)]
-pub struct Edited {
-    pub answer: Answer,
-    pub sheet: Sheet,
-}
-
-// A refused edit hands back the sheet it got.
-pub fn refuse(answer: Answer, s: Sheet) -> Edited
-    ensures { result ≡ record { answer = answer; sheet = s } }
-{
-    Edited { answer, sheet: s }
-}
-
-// An accepted one hands out the sheet that it made.
-pub fn accept(s: Sheet) -> Edited
-    ensures { result ≡ record { answer = Accepted; sheet = s } }
-{
-    Edited {
-        answer: Answer::Accepted,
-        sheet: s,
+impl Edit {
+    // Read edit refuses by 1 alone: line not of the layout.
+    pub fn answer(self) -> Result<(), Refusal>
+        ensures { result ≡ edit_answer self }
+    {
+        match self {
+            Edit::Refused => Err(Refusal::BadLayout),
+            _ => Ok(()),
+        }
     }
 }
 
@@ -88,27 +73,13 @@ fn edit_of(text: &[u8]) -> Edit
     Edit::Refused
 }
 
-// Read edit refuses by 1 alone: line not of the layout.
-fn edit_answer(e: Edit) -> Answer
-    ensures { result ≡ edit_answer e }
-{
-    match e {
-        Edit::In(_) => Answer::Accepted,
-        Edit::Run(_, _, _, _) => Answer::Accepted,
-        Edit::Out(_) => Answer::Accepted,
-        Edit::Off(_) => Answer::Accepted,
-        Edit::Refused => Answer::BadLayout,
-    }
-}
-
-// Read edit: the edit of the line at the front of a text, whether it is one, and the bytes that the line takes.
+// Read edit: the edit of the line at the front of a text, or its refusal, and the bytes that the line takes.
+#[tactic(auto, unfolding(crate::specs::Lines::read_edit))]
 pub fn read_edit(text: &[u8]) -> EditRead
     ensures { result ≡ read_edit text.now }
 {
-    let edit = edit_of(text);
     EditRead {
-        answer: edit_answer(edit),
-        edit,
+        edit: edit_of(text),
         taken: line_length(text),
     }
 }

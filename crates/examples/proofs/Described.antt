@@ -9,9 +9,8 @@ use Rattle.text.specs.Keys.{bars_key, wires_key, wire_key, around_key}
 use Rattle.text.specs.Reading.{Listed, line_at}
 use Rattle.text.specs.Reading.Listed.{listed, unlisted}
 use Rattle.text.specs.Shapes.{with_one, with_two, with_some}
-use Rattle.answers.specs.declared.Answer.{Answer}
-use Rattle.answers.specs.declared.Answer.TheVariants.{BadLayout, CountOutOfLimits, BadEdge, BadRotation}
-use Rattle.answers.specs.Answers.{refusal_number}
+use Rattle.answers.specs.declared.Refusal.TheVariants.{BadLayout, CountOutOfLimits, BadEdge, BadRotation}
+use Rattle.answers.specs.Answers.{Answer, refusal_number}
 use Rattle.sheet.specs.declared.Sheet.{Sheet}
 use Rattle.load.specs.Rings.{is_rotation, link_ring}
 use Rattle.load.specs.Load.{Parsed, empty_sheet, with_edge, with_nexts, ring_lines, edge_lines, with_count, parse}

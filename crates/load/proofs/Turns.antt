@@ -1,4 +1,5 @@
 -- The loops over the lines, turn by turn: what is left to read gives what the whole gives. Assumes nothing.
+use Rattle.std.specs.Prelude.{Ok}
 use Prim.Native.Nat.{ℕ, zero, suc, ◌+◌, ◌-◌, ◌≤◌, ◌<◌}
 use mathlib.Core.Path.{◌≡◌, refl, sym, ap, ◌∙◌}
 use mathlib.Core.Logic.{◌≢◌, by_cases}
@@ -23,8 +24,8 @@ use Rattle.text.proofs.Counted.{one_is, one_not, two_is, two_not}
 use Rattle.sheet.specs.declared.Sheet.{Sheet}
 use Rattle.answers.specs.Refusals.{is_accepted}
 use Rattle.sheet.specs.Check.{judge}
-use Rattle.answers.specs.declared.Answer.{Answer}
-use Rattle.answers.specs.declared.Answer.TheVariants.{Accepted, BadLayout, CountOutOfLimits, BadEdge}
+use Rattle.answers.specs.Answers.{Answer}
+use Rattle.answers.specs.declared.Refusal.TheVariants.{BadLayout, CountOutOfLimits, BadEdge}
 use Rattle.load.specs.declared.lines.Count.{Count}
 use Rattle.load.specs.declared.lines.Count.TheVariants as counts
 use Rattle.load.specs.declared.lines.Step.{Step}
@@ -241,6 +242,6 @@ module _ (s : Sheet) (next : ℕ) (answer : Answer) (e : answer ≡ judge s) whe
   unfolding judged
   judged_refused f = rw (← e, f) refl
 
-  pub judged_accepted : is_accepted answer ≡ true → (present : Sheet) → record { answer = Accepted; sheet = s; taken = next } ≡ loaded present (judged s next)
+  pub judged_accepted : is_accepted answer ≡ true → (present : Sheet) → record { answer = Ok tt; sheet = s; taken = next } ≡ loaded present (judged s next)
   unfolding judged loaded
   judged_accepted t present = rw (← e, t) refl

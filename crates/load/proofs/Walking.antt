@@ -21,8 +21,8 @@ use Rattle.text.specs.Reading.Listed.{listed, unlisted}
 use Rattle.text.proofs.DigitLaws.{inside, number_ahead}
 use Rattle.text.proofs.Listing.{numbers_none, numbers_last, numbers_more}
 use Rattle.text.proofs.Closing.{starts_length, closing_ended, closing_open, keyed, keyless}
-use Rattle.answers.specs.declared.Answer.{Answer}
-use Rattle.answers.specs.declared.Answer.TheVariants.{BadLayout, BadRotation}
+use Rattle.answers.specs.Answers.{Answer}
+use Rattle.answers.specs.declared.Refusal.TheVariants.{BadLayout, BadRotation}
 use Rattle.load.specs.declared.lines.Step.{Step}
 use Rattle.load.specs.declared.lines.Step.TheVariants.{Next, Refused}
 use Rattle.load.specs.declared.around.Entry.{Entry}

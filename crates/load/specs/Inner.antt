@@ -9,8 +9,8 @@ use Rattle.text.specs.Reading.{Listed, numbers_at, line_at}
 use Rattle.text.specs.Reading.Listed.{listed, unlisted}
 use Rattle.text.specs.Shapes.{with_one}
 use Rattle.sheet.specs.Darts.{sheet_of}
-use Rattle.answers.specs.declared.Answer.{Answer}
-use Rattle.answers.specs.declared.Answer.TheVariants.{BadLayout, CountOutOfLimits, BadRotation}
+use Rattle.answers.specs.Answers.{Answer}
+use Rattle.answers.specs.declared.Refusal.TheVariants.{BadLayout, CountOutOfLimits, BadRotation}
 use Rattle.load.specs.declared.lines.Count.{Count}
 use Rattle.load.specs.declared.lines.Count.TheVariants as counts
 use Rattle.load.specs.declared.lines.Step.{Step}

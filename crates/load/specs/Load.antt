@@ -1,11 +1,11 @@
 -- Load: a sheet from the front of a text, line by line; on a line, shape first.
-use Rattle.std.specs.Prelude.{ℕ, zero, suc, ◌+◌, not, ◌&&◌, List, eqb, ltb, leb, set, replicate}
+use Rattle.std.specs.Prelude.{ℕ, zero, suc, ◌+◌, not, ◌&&◌, List, eqb, ltb, leb, set, replicate, Ok}
 use Rattle.counting.specs.Choice.{pick}
 use Rattle.text.specs.Reading.{Listed, line_at}
 use Rattle.text.specs.Shapes.{with_one, with_two, with_some}
 use Rattle.sheet.specs.declared.Sheet.{Sheet}
-use Rattle.answers.specs.declared.Answer.{Answer}
-use Rattle.answers.specs.declared.Answer.TheVariants.{Accepted, BadLayout, CountOutOfLimits, BadEdge, BadRotation}
+use Rattle.answers.specs.Answers.{Answer}
+use Rattle.answers.specs.declared.Refusal.TheVariants.{BadLayout, CountOutOfLimits, BadEdge, BadRotation}
 use Rattle.answers.specs.Refusals.{is_accepted}
 use Rattle.sheet.specs.Check.{judge}
 use Rattle.load.specs.declared.Loaded.{Loaded}
@@ -61,7 +61,7 @@ parse text =
 
 -- Refused, the present sheet comes back, and 0 bytes are taken.
 unfoldable pub loaded : Sheet → Parsed → Loaded
-loaded present (parsed s taken) = record { answer = Accepted; sheet = s; taken = taken }
+loaded present (parsed s taken) = record { answer = Ok tt; sheet = s; taken = taken }
 loaded present (refused a) = record { answer = a; sheet = present; taken = 0 }
 
 abbrev pub load : List ℕ → Sheet → Loaded

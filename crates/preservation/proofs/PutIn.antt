@@ -1,4 +1,5 @@
 -- Put in keeps a sheet sound. Assumes nothing.
+use Rattle.std.specs.Prelude.{Ok}
 use Prim.Native.Nat.{ℕ, suc, ◌+◌, ◌≤◌, ◌<◌}
 use mathlib.Core.Path.{◌≡◌, refl, sym, ◌∙◌, ap}
 use mathlib.Core.Logic.{◌≢◌, by_cases}
@@ -22,7 +23,7 @@ use Rattle.soundness.specs.Maps.{map_with, map_of}
 use Rattle.soundness.proofs.Darts.{dart, dart_kind, dart_below, by_dart, dart_opposite, dart_vertex}
 use Rattle.soundness.proofs.Plane.{plane_of}
 use Rattle.soundness.proofs.Law.{sound_law}
-use Rattle.answers.specs.declared.Answer.TheVariants.{Accepted, NotSound, NotInSheet, RootEdge, Full}
+use Rattle.answers.specs.declared.Refusal.TheVariants.{NotSound, NotInSheet, RootEdge, Full}
 use Rattle.answers.specs.Answers.{refusal_number}
 use Rattle.counting.proofs.Iterate.{not-false}
 use Rattle.edit.specs.Calls.{no_edge, put_in_answer}
@@ -207,13 +208,13 @@ pub record Given (s : Sheet) (k : ℕ) : Type 0 where
   pub n_room : s.vertices < 128
   pub m_room : s.edges < 256
 
-pub put_in_given : (s : Sheet) (k : ℕ) → Sized s → put_in_answer s k ≡ Accepted → Given s k
+pub put_in_given : (s : Sheet) (k : ℕ) → Sized s → put_in_answer s k ≡ Ok tt → Given s k
 unfolding put_in_answer refusal_number
 put_in_given s k z e =
-    let a = passed NotSound (not (sound s)) _ (λ q. omega arith) e in
-    let b = passed NotInSheet (no_edge s k) _ (λ q. omega arith) a.1 in
-    let c = passed RootEdge (eqb k 0) _ (λ q. omega arith) b.1 in
-    let d = neither (eqb s.vertices 128) (eqb s.edges 256) (passed Full (eqb s.vertices 128 || eqb s.edges 256) _ (λ q. omega arith) c.1).0 in
+    let a = passed NotSound (not (sound s)) _ e in
+    let b = passed NotInSheet (no_edge s k) _ a.1 in
+    let c = passed RootEdge (eqb k 0) _ b.1 in
+    let d = neither (eqb s.vertices 128) (eqb s.edges 256) (passed Full (eqb s.vertices 128 || eqb s.edges 256) _ c.1).0 in
     let S = (sound_law s z).0 (not-false (sound s) a.0) in
     record {
       is_sound = S;

@@ -14,7 +14,7 @@ use Rattle.counting.specs.Paths.Path.{here, more}
 use Rattle.counting.proofs.Iterate.{not-false, clash}
 use Rattle.surgery.specs.Edits.{Added}
 use Rattle.surgery.proofs.Add.{added_plane, added_rises}
-use Rattle.answers.specs.declared.Answer.TheVariants.{NotSound, NotInSheet, CornersApart, ClosesCircle, Full}
+use Rattle.answers.specs.declared.Refusal.TheVariants.{NotSound, NotInSheet, CornersApart, ClosesCircle, Full}
 use Rattle.answers.specs.Answers.{refusal_number}
 use Rattle.sheet.specs.declared.Sheet.{Sheet}
 use Rattle.clauses.specs.Darts.{tail_dart, head_dart, is_tail, opposite}
@@ -237,11 +237,11 @@ module _ (s : Sheet) (z : Sized s) (S : Sound s) (a p b q : ℕ) (g : Given s a 
 pub run_whole : RunWhole
 unfolding run_answer refusal_number
 run_whole s a p b q z e =
-    let i = passed NotSound (not (sound s)) _ (λ w. omega arith) e in
-    let j = passed NotInSheet (no_vertex s a || no_vertex s b || no_edge s p || no_edge s q) _ (λ w. omega arith) i.1 in
-    let k = passed CornersApart (not (touches s p a) || not (touches s q b) || not (eqb (corner_face s a p) (corner_face s b q))) _ (λ w. omega arith) j.1 in
-    let l = passed ClosesCircle (eqb a b || leads_to s b a) _ (λ w. omega arith) k.1 in
-    let o = passed Full (eqb s.edges 256) _ (λ w. omega arith) l.1 in
+    let i = passed NotSound (not (sound s)) _ e in
+    let j = passed NotInSheet (no_vertex s a || no_vertex s b || no_edge s p || no_edge s q) _ i.1 in
+    let k = passed CornersApart (not (touches s p a) || not (touches s q b) || not (eqb (corner_face s a p) (corner_face s b q))) _ j.1 in
+    let l = passed ClosesCircle (eqb a b || leads_to s b a) _ k.1 in
+    let o = passed Full (eqb s.edges 256) _ l.1 in
     let S = (sound_law s z).0 (not-false (sound s) i.0) in
     let (jr, jq) = neither (no_vertex s a || no_vertex s b || no_edge s p) (no_edge s q) j.0 in
     let (jv, jp) = neither (no_vertex s a || no_vertex s b) (no_edge s p) jr in

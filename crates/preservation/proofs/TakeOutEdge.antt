@@ -23,7 +23,7 @@ use Rattle.soundness.specs.Maps.{map_with, map_of}
 use Rattle.soundness.proofs.Darts.{dart, dart_kind, dart_below, dart_vertex}
 use Rattle.soundness.proofs.Plane.{plane_of}
 use Rattle.soundness.proofs.Law.{sound_law}
-use Rattle.answers.specs.declared.Answer.TheVariants.{NotSound, NotInSheet, RootEdge, EdgeNeeded}
+use Rattle.answers.specs.declared.Refusal.TheVariants.{NotSound, NotInSheet, RootEdge, EdgeNeeded}
 use Rattle.answers.specs.Answers.{refusal_number}
 use Rattle.edit.specs.Changes.{renamed, remove_dart, last_edge_to, take_out_edge}
 use Rattle.edit.specs.Calls.{no_edge, out_degree, in_degree, take_out_edge_answer}
@@ -197,13 +197,13 @@ module _ (s : Sheet) (z : Sized s) (S : Sound s) (k : ℕ) (k_in : k < s.edges) 
 pub take_out_edge_whole : TakeOutEdgeWhole
 unfolding take_out_edge take_out_edge_answer refusal_number out_degree in_degree
 take_out_edge_whole s k z e =
-    let a = passed NotSound (not (sound s)) _ (λ q. omega arith) e in
-    let b = passed NotInSheet (no_edge s k) _ (λ q. omega arith) a.1 in
-    let c = passed RootEdge (eqb k 0) _ (λ q. omega arith) b.1 in
+    let a = passed NotSound (not (sound s)) _ e in
+    let b = passed NotInSheet (no_edge s k) _ a.1 in
+    let c = passed RootEdge (eqb k 0) _ b.1 in
     let two = eqb s.edges 2 in
     let out = eqb (out_degree s (tail s k)) 1 in
     let ins = eqb (in_degree s (head s k)) 1 in
-    let d = neither (two || out) ins (passed EdgeNeeded (two || out || ins) _ (λ q. omega arith) c.1).0 in
+    let d = neither (two || out) ins (passed EdgeNeeded (two || out || ins) _ c.1).0 in
     let f = neither two out d.0 in
     let S = (sound_law s z).0 (not-false (sound s) a.0) in
     let k_in : k < s.edges = not_at_most s.edges k b.0 in

@@ -27,7 +27,7 @@ use Rattle.soundness.specs.Maps.{map_with, map_of}
 use Rattle.soundness.proofs.Darts.{dart, dart_kind, dart_below, each_dart, by_dart, dart_opposite, dart_vertex}
 use Rattle.soundness.proofs.Plane.{plane_of}
 use Rattle.soundness.proofs.Law.{sound_law}
-use Rattle.answers.specs.declared.Answer.TheVariants.{NotSound, NotInSheet, VertexNeeded}
+use Rattle.answers.specs.declared.Refusal.TheVariants.{NotSound, NotInSheet, VertexNeeded}
 use Rattle.answers.specs.Answers.{refusal_number}
 use Rattle.edit.specs.Changes.{renamed, replace_dart, last_edge_to, last_vertex_to, incoming_edge, outgoing_edge, take_out_vertex}
 use Rattle.edit.specs.Calls.{no_vertex, out_degree, in_degree, take_out_vertex_answer}
@@ -320,11 +320,11 @@ module _ (s : Sheet) (z : Sized s) (S : Sound s) (v : ℕ) (v_in : v < s.vertice
 pub take_out_vertex_whole : TakeOutVertexWhole
 unfolding take_out_vertex incoming_edge outgoing_edge take_out_vertex_answer refusal_number out_degree in_degree
 take_out_vertex_whole s v z e =
-    let a = passed NotSound (not (sound s)) _ (λ q. omega arith) e in
-    let c = passed NotInSheet (no_vertex s v) _ (λ q. omega arith) a.1 in
+    let a = passed NotSound (not (sound s)) _ e in
+    let c = passed NotInSheet (no_vertex s v) _ a.1 in
     let ins = eqb (in_degree s v) 1 in
     let out = eqb (out_degree s v) 1 in
-    let d = neither (eqb v 0 || eqb v 1) (not (ins && out)) (passed VertexNeeded (eqb v 0 || eqb v 1 || not (ins && out)) _ (λ q. omega arith) c.1).0 in
+    let d = neither (eqb v 0 || eqb v 1) (not (ins && out)) (passed VertexNeeded (eqb v 0 || eqb v 1 || not (ins && out)) _ c.1).0 in
     let f = neither (eqb v 0) (eqb v 1) d.0 in
     let g = (and-eq-true_iff ins out).0 (not-false (ins && out) d.1) in
     let S = (sound_law s z).0 (not-false (sound s) a.0) in

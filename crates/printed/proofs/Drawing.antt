@@ -1,4 +1,5 @@
 -- What `plate` prints is the drawing that demand 3 speaks of. Assumes nothing.
+use Rattle.std.specs.Prelude.{Ok}
 use Prim.Native.Nat.{ℕ, zero, suc, ◌≤◌}
 use mathlib.Core.Path.{◌≡◌, refl, sym, ap, ◌∙◌}
 use mathlib.Core.Bool.{true}
@@ -6,7 +7,6 @@ use mathlib.Core.List.{List, [], ◌∷◌, ◌++◌, append_assoc}
 use native.Mathlib.Omega.{arith}
 use borrow.Author.Tests.{le-leb}
 use lib.ListN.{length, drop}
-use Rattle.answers.specs.declared.Answer.TheVariants.{Accepted}
 use Rattle.answers.specs.Refusals.{is_accepted}
 use Rattle.answers.proofs.Refusals.{accepts_accepted}
 use Rattle.sheet.specs.declared.Sheet.{Sheet}
@@ -64,7 +64,7 @@ edits_drawn (suc r) s (b ∷ text) =
     ∙ sym (append_assoc (edit_output e) (refusals e.sheet es) (drawing_text_of (after e.sheet (calls_for es))))
     ∙ ap (λ (t : Sheet). edit_output e ++ refusals e.sheet es ++ drawing_text_of t) (sym (call_after s (edit_of all) es))
 
-edits_only : (input : List ℕ) → length input ≤ 16384 → (load input fresh_sheet).answer ≡ Accepted
+edits_only : (input : List ℕ) → length input ≤ 16384 → (load input fresh_sheet).answer ≡ Ok tt
     → plate_output input ≡ edits_output (length input) (load input fresh_sheet).sheet (drop (load input fresh_sheet).taken input)
 unfolding plate_output loaded_output
 edits_only input h a =

@@ -1,6 +1,5 @@
 -- What `plate` prints, by the calls of its input.
-use Rattle.std.specs.Prelude.{ℕ, ◌≤◌, ◌≡◌, List, ◌++◌, length}
-use Rattle.answers.specs.declared.Answer.TheVariants.{Accepted}
+use Rattle.std.specs.Prelude.{ℕ, ◌≤◌, ◌≡◌, List, ◌++◌, length, Ok}
 use Rattle.sheet.specs.declared.Sheet.{Sheet}
 use Rattle.sheet.specs.Fresh.{fresh_sheet}
 use Rattle.load.specs.Load.{load}
@@ -27,4 +26,4 @@ pub record Prints (input : List ℕ) : Type 0 where
   pub holds : Holds (calls_in input)
 
 abbrev pub PrintedDrawing : Type 0
-PrintedDrawing = (input : List ℕ) → length input ≤ 16384 → (load input fresh_sheet).answer ≡ Accepted → Prints input
+PrintedDrawing = (input : List ℕ) → length input ≤ 16384 → (load input fresh_sheet).answer ≡ Ok tt → Prints input

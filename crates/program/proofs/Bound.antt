@@ -1,4 +1,5 @@
 -- Every sheet on the way is sound, and no output is longer than the bound. Assumes nothing.
+use Rattle.std.specs.Prelude.{Ok}
 use Prim.Native.Nat.{ℕ, zero, suc, ◌+◌, ◌*◌, ◌≤◌}
 use mathlib.Core.Path.{◌≡◌, ap, ◌∙◌}
 use mathlib.Core.Bool.{true}
@@ -9,9 +10,8 @@ use lib.ListN.{length, drop, length-append, length-drop}
 use borrow.Author.Tests.{leb-true}
 use Rattle.counting.proofs.Iterate.{by_bool}
 use Rattle.text.specs.Written.{decimal, separated, line}
-use Rattle.answers.specs.declared.Answer.{Answer}
-use Rattle.answers.specs.declared.Answer.TheVariants.{Accepted, BadLayout, CountOutOfLimits, BadEdge, BadRotation, BadRoot, Cyclic, BadPoles, NotPlanar, NotSound, NotInSheet, Full, RootEdge, CornersApart, ClosesCircle, EdgeNeeded, VertexNeeded, BufferTooShort, InputTooLong}
-use Rattle.answers.specs.Answers.{refusal_number}
+use Rattle.answers.specs.declared.Refusal.TheVariants.{BadLayout, CountOutOfLimits, BadEdge, BadRotation, BadRoot, Cyclic, BadPoles, NotPlanar, NotSound, NotInSheet, Full, RootEdge, CornersApart, ClosesCircle, EdgeNeeded, VertexNeeded, BufferTooShort, InputTooLong}
+use Rattle.answers.specs.Answers.{Answer, refusal_number}
 use Rattle.answers.specs.Refusals.{is_accepted}
 use Rattle.answers.proofs.Refusals.{accepted_is}
 use Rattle.sheet.specs.declared.Sheet.{Sheet}
@@ -41,7 +41,7 @@ use Rattle.program.specs.Laws.{OutputBound}
 use Rattle.program.proofs.Edits.{one_line, line_some, line_most}
 
 -- an edit of a sound sheet leaves a sound sheet, refused or accepted
-edited_whole : (s : Sheet) → Whole s → (a : Answer) (next : Unit {0} → Sheet) → (a ≡ Accepted → Whole (next tt)) → Whole (edited a s next).sheet
+edited_whole : (s : Sheet) → Whole s → (a : Answer) (next : Unit {0} → Sheet) → (a ≡ Ok tt → Whole (next tt)) → Whole (edited a s next).sheet
 unfolding edited
 edited_whole s w a next good = by_bool (is_accepted a) (λ t. rw t (good (accepted_is a t))) (λ t. rw t w)
 
@@ -62,7 +62,7 @@ whole_sound {s} w = (sound_law s w.1).1 w.0
 -- a line `refused=` has at most 11 bytes
 pub refused_short : (a : Answer) → length (refused_line a) ≤ 11
 unfolding refused_line refusal_number line separated decimal
-refused_short Accepted = omega arith
+refused_short Ok tt = omega arith
 refused_short BadLayout = omega arith
 refused_short CountOutOfLimits = omega arith
 refused_short BadEdge = omega arith

@@ -1,4 +1,5 @@
 -- What is printed, case by case, and how it stands in the buffer. Assumes nothing.
+use Rattle.std.specs.Prelude.{Ok}
 use Prim.Native.Nat.{ℕ, ◌+◌, ◌≤◌, ◌<◌}
 use mathlib.Core.Path.{◌≡◌, refl, sym, ap, ◌∙◌}
 use mathlib.Core.Bool.{true, false}
@@ -10,7 +11,7 @@ use lib.Dec.{ltb}
 use lib.ListN.{length}
 use lib.Seq.{sets, sets-eq}
 use Rattle.counting.proofs.Iterate.{by_bool}
-use Rattle.answers.specs.declared.Answer.TheVariants.{Accepted, BufferTooShort, InputTooLong}
+use Rattle.answers.specs.declared.Refusal.TheVariants.{BufferTooShort, InputTooLong}
 use Rattle.answers.specs.Answers.{refusal_number}
 use Rattle.answers.specs.Refusals.{first, is_accepted}
 use Rattle.sheet.specs.declared.Sheet.{Sheet}
@@ -61,11 +62,11 @@ module _ (input buffer : List ℕ) where
   short_buffer h = rw (lt-ltb (length buffer) longest_output h) (refl, refl)
 
   pub output_put : longest_output ≤ length buffer → (count : ℕ) → count ≡ length (plate_output input) → (out : List ℕ) → out ≡ sets buffer 0 (plate_output input)
-      → Answered input buffer (record { answer = Accepted; count = count }) out
+      → Answered input buffer (record { answer = Ok tt; count = count }) out
   unfolding plate_answer written buffer_after first is_accepted refusal_number
   output_put h count n out q =
       rw (le-ltb (length buffer) longest_output h)
-      (ap (λ k. record { answer = Accepted; count = k }) n, q ∙ sets-eq (plate_output input) buffer 0 (omega (arith, output_bound input)) ∙ rw zero-add refl)
+      (ap (λ k. record { answer = Ok tt; count = k }) n, q ∙ sets-eq (plate_output input) buffer 0 (omega (arith, output_bound input)) ∙ rw zero-add refl)
 
   -- the output lies within the buffer
   pub count_fits : (w : Written) → w ≡ write_output input buffer → w.count ≤ length buffer

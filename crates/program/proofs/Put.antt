@@ -1,4 +1,5 @@
 -- What is put into the buffer. Assumes nothing.
+use Rattle.std.specs.Prelude.{Ok}
 use Prim.Native.Nat.{ℕ, ◌+◌, ◌-◌, ◌≤◌}
 use mathlib.Core.Path.{◌≡◌, refl, sym, ap, ◌∙◌}
 use mathlib.Core.List.{List, [], ◌∷◌, ◌++◌, append-nil, append_assoc}
@@ -8,8 +9,7 @@ use lib.ListN.{length, take, drop, length-drop, drop_of_length-le}
 use lib.Seq.{sets, sets-eq, take_all, drop-drop}
 use Rattle.text.specs.Bytes.{bytes}
 use Rattle.text.specs.Written.{line}
-use Rattle.answers.specs.declared.Answer.{Answer}
-use Rattle.answers.specs.declared.Answer.TheVariants.{Accepted}
+use Rattle.answers.specs.Answers.{Answer}
 use Rattle.answers.specs.Answers.{refusal_number}
 use Rattle.sheet.specs.declared.Sheet.{Sheet}
 use Rattle.writesheet.specs.declared.Written.{Written}
@@ -40,7 +40,7 @@ part_put xs text at h =
 
 -- a sheet's drawing is put from a place of the buffer on
 module _ (s : Sheet) (w : Whole s) (out : List ℕ) (at : ℕ) (room : at + length (drawing_text_of s) ≤ length out) where
-  drawn : Outcome s (drawing_text_of s) (drop at out) (record { answer = Accepted; count = length (drawing_text_of s) }) (sets (drop at out) 0 (drawing_text_of s))
+  drawn : Outcome s (drawing_text_of s) (drop at out) (record { answer = Ok tt; count = length (drawing_text_of s) }) (sets (drop at out) 0 (drawing_text_of s))
   drawn = text_put s (drawing_text_of s) (drop at out) (whole_sound w) (omega (arith, length-drop at out)) (length (drawing_text_of s)) refl (sets (drop at out) 0 (drawing_text_of s)) refl
 
   pub drawing_count : (r : Written) → r ≡ write_drawing s (take (length out - at) (drop at out)) → r.count ≡ length (drawing_text_of s)

@@ -4,9 +4,8 @@ use Rattle.text.specs.Bytes.{bytes}
 use Rattle.counting.specs.Choice.{pick}
 use Rattle.text.specs.Written.{line}
 use Rattle.sheet.specs.declared.Sheet.{Sheet}
-use Rattle.answers.specs.declared.Answer.{Answer}
-use Rattle.answers.specs.declared.Answer.TheVariants.{BufferTooShort, InputTooLong}
-use Rattle.answers.specs.Answers.{refusal_number}
+use Rattle.answers.specs.declared.Refusal.TheVariants.{BufferTooShort, InputTooLong}
+use Rattle.answers.specs.Answers.{Answer, refusal_number}
 use Rattle.answers.specs.Refusals.{first, ◌if◌, is_accepted}
 use Rattle.sheet.specs.Fresh.{fresh_sheet}
 use Rattle.load.specs.declared.Loaded.{Loaded}

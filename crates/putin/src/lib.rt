@@ -5,8 +5,7 @@ ghost use Rattle.std.specs.Prelude.{◌≡◌, ◌<◌};
 ghost use Rattle.edit.specs.Changes.{put_in};
 ghost use Rattle.edit.specs.Calls.{put_in_answer, put_in_call};
 
-use answers::Answer;
-use edit::Edited;
+use answers::Refusal;
 use sheet::Sheet;
 
 // The sheet with a new vertex in edge k.
@@ -36,35 +35,31 @@ fn split_edge(s: Sheet, k: usize) -> Sheet
 
 // What put in refuses, in order.
 #[tactic(auto, using(crate::proofs::PutIn::answers))]
-fn put_in_answer(s: Sheet, k: usize) -> Answer
+fn put_in_answer(s: Sheet, k: usize) -> Result<(), Refusal>
     ensures { result ≡ put_in_answer s k }
 {
     if !sheet::is_sound(s) {
-        return Answer::NotSound;
+        return Err(Refusal::NotSound);
     }
     if s.edges <= k {
-        return Answer::NotInSheet;
+        return Err(Refusal::NotInSheet);
     }
     if k == 0 {
-        return Answer::RootEdge;
+        return Err(Refusal::RootEdge);
     }
     if s.vertices == 128 {
-        return Answer::Full;
+        return Err(Refusal::Full);
     }
     if s.edges == 256 {
-        return Answer::Full;
+        return Err(Refusal::Full);
     }
-    Answer::Accepted
+    Ok(())
 }
 
 // Put in: vertex n is new; edge k now ends there, edge m goes from there to the old head and takes k's place in its ring.
-pub fn put_in(s: Sheet, k: usize) -> Edited
+pub fn put_in(s: Sheet, k: usize) -> Result<Sheet, Refusal>
     ensures { result ≡ put_in_call s k }
 {
-    let answer = put_in_answer(s, k);
-    if !answers::is_accepted(answer) {
-        return edit::refuse(answer, s);
-    }
-    let made = split_edge(s, k);
-    edit::accept(made)
+    put_in_answer(s, k)?;
+    Ok(split_edge(s, k))
 }

@@ -1,4 +1,5 @@
 -- What load accepts is sound. Assumes nothing.
+use Rattle.std.specs.Prelude.{Ok}
 use mathlib.Core.Path.{◌≡◌, refl, sym, ◌∙◌, ap, subst}
 use mathlib.Core.Logic.{◌≢◌, by_cases}
 use mathlib.Core.Bool.{Bool, true, false, not, ◌&&◌, false≢true}
@@ -14,7 +15,6 @@ use Rattle.counting.specs.Choice.{pick}
 use Rattle.text.specs.Reading.{line_at}
 use Rattle.layout.proofs.Shapes.{line_reads, one_shaped, two_shaped, some_shaped}
 use Rattle.sheet.specs.declared.Sheet.{Sheet}
-use Rattle.answers.specs.declared.Answer.TheVariants.{Accepted}
 use Rattle.answers.specs.Answers.{refusal_number}
 use Rattle.answers.specs.Refusals.{is_accepted}
 use Rattle.answers.proofs.Refusals.{accepted_is}
@@ -192,6 +192,6 @@ pub loaded_sound : LoadedSound
 unfolding loaded is_accepted refusal_number
 loaded_sound text present = go (parse text) (parse_good text)
   where
-    go : (p : Parsed) → Good p → (loaded present p).answer ≡ Accepted → Sized (loaded present p).sheet × Sound (loaded present p).sheet
+    go : (p : Parsed) → Good p → (loaded present p).answer ≡ Ok tt → Sized (loaded present p).sheet × Sound (loaded present p).sheet
     go (parsed s next) g e = g
     go (refused a) g e = absurd (false≢true (sym g ∙ ap is_accepted e))

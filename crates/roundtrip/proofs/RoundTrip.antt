@@ -1,4 +1,5 @@
 -- A written sheet reads back as the same sheet. Assumes nothing.
+use Rattle.std.specs.Prelude.{Ok}
 use mathlib.Core.Path.{◌≡◌, refl, sym, ◌∙◌, ap, subst}
 use mathlib.Core.Logic.{by_cases}
 use mathlib.Core.Bool.{true}
@@ -19,7 +20,6 @@ use Rattle.layout.proofs.Standing.{stands_left, stands_right}
 use Rattle.layout.specs.Mixed.{MixedEnds}
 use Rattle.layout.proofs.Mixed.{mixed_same, mixed_parts, endless, mixed_read}
 use Rattle.sheet.specs.declared.Sheet.{Sheet}
-use Rattle.answers.specs.declared.Answer.TheVariants.{Accepted}
 use Rattle.answers.specs.Answers.{refusal_number}
 use Rattle.answers.specs.Refusals.{is_accepted}
 use Rattle.sheet.specs.Darts.{Sized, tail, head, darts, vertex, next}
@@ -174,7 +174,7 @@ module _ (s : Sheet) (z : Sized s) (S : Sound s) (ring : ℕ → List ℕ) (rota
       rings : List ℕ
       rings = join_below (ring_text ring) s.vertices
 
-  pub lines_back : (text : List ℕ) → MixedEnds (sheet_lines s ring) text → (rest : List ℕ) (present : Sheet) → load (text ++ rest) present ≡ record { answer = Accepted; sheet = s; taken = length text }
+  pub lines_back : (text : List ℕ) → MixedEnds (sheet_lines s ring) text → (rest : List ℕ) (present : Sheet) → load (text ++ rest) present ≡ record { answer = Ok tt; sheet = s; taken = length text }
   unfolding loaded
   lines_back text m rest present = ap (loaded present) (parse_back (text ++ rest) text m (stands_front text rest))
 

@@ -1,4 +1,5 @@
 -- What run answers, test by test; and what acceptance says. Assumes nothing.
+use Rattle.std.specs.Prelude.{Ok, Err}
 use Prim.Native.Nat.{ℕ, ◌≤◌, ◌<◌}
 use mathlib.Core.Path.{◌≡◌, refl, sym, ◌∙◌}
 use mathlib.Core.Logic.{◌≢◌}
@@ -9,9 +10,8 @@ use lib.Dec.{eqb}
 use borrow.Author.Tests.{le-leb, lt-leb, eq-eqb, ne_eqb}
 use Rattle.clauses.specs.Darts.{touches_of}
 use Rattle.counting.proofs.Iterate.{by_bool, not-false}
-use Rattle.answers.specs.declared.Answer.{Answer}
-use Rattle.answers.specs.declared.Answer.TheVariants.{Accepted, NotSound, NotInSheet, CornersApart, ClosesCircle, Full}
-use Rattle.answers.specs.Answers.{refusal_number}
+use Rattle.answers.specs.declared.Refusal.TheVariants.{NotSound, NotInSheet, CornersApart, ClosesCircle, Full}
+use Rattle.answers.specs.Answers.{Answer, refusal_number}
 use Rattle.answers.specs.Refusals.{first, ◌if◌, is_accepted}
 use Rattle.answers.proofs.Refusals.{passed}
 use Rattle.sheet.specs.declared.Sheet.{Sheet}
@@ -28,27 +28,27 @@ use Rattle.run.specs.Inner.{corner_of, Pair, Named, Room}
 use Rattle.run.proofs.Corners.{touches_is, corner_is}
 
 module _ (s : Sheet) (a p b q : ℕ) where
-  pub not_sound : sound s ≡ false → NotSound ≡ run_answer s a p b q
+  pub not_sound : sound s ≡ false → Err NotSound ≡ run_answer s a p b q
   unfolding run_answer first
   not_sound e = rw e refl
 
   module _ (S : sound s ≡ true) where
-    pub no_start : s.vertices ≤ a → NotInSheet ≡ run_answer s a p b q
+    pub no_start : s.vertices ≤ a → Err NotInSheet ≡ run_answer s a p b q
     unfolding run_answer first
     no_start h = rw (S, le-leb s.vertices a h) refl
 
     module _ (a_in : a < s.vertices) where
-      pub no_end : s.vertices ≤ b → NotInSheet ≡ run_answer s a p b q
+      pub no_end : s.vertices ≤ b → Err NotInSheet ≡ run_answer s a p b q
       unfolding run_answer first
       no_end h = rw (S, lt-leb s.vertices a a_in, le-leb s.vertices b h) refl
 
       module _ (b_in : b < s.vertices) where
-        pub no_first : s.edges ≤ p → NotInSheet ≡ run_answer s a p b q
+        pub no_first : s.edges ≤ p → Err NotInSheet ≡ run_answer s a p b q
         unfolding run_answer first
         no_first h = rw (S, lt-leb s.vertices a a_in, lt-leb s.vertices b b_in, le-leb s.edges p h) refl
 
         module _ (p_in : p < s.edges) where
-          pub no_second : s.edges ≤ q → NotInSheet ≡ run_answer s a p b q
+          pub no_second : s.edges ≤ q → Err NotInSheet ≡ run_answer s a p b q
           unfolding run_answer first
           no_second h = rw (S, lt-leb s.vertices a a_in, lt-leb s.vertices b b_in, lt-leb s.edges p p_in, le-leb s.edges q h) refl
 
@@ -59,36 +59,36 @@ module _ (s : Sheet) (a p b q : ℕ) where
       ClosesCircle if (eqb a b || leads_to s b a) ∷
       Full if eqb s.edges 256 ∷ [])
 
-  later_first : touches s p a ≡ false → CornersApart ≡ later
+  later_first : touches s p a ≡ false → Err CornersApart ≡ later
   unfolding later first
   later_first t = rw t refl
 
   module _ (t : touches s p a ≡ true) where
-    later_second : touches s q b ≡ false → CornersApart ≡ later
+    later_second : touches s q b ≡ false → Err CornersApart ≡ later
     unfolding later first
     later_second u = rw (t, u) refl
 
     module _ (u : touches s q b ≡ true) where
-      later_apart : corner_face s a p ≢ corner_face s b q → CornersApart ≡ later
+      later_apart : corner_face s a p ≢ corner_face s b q → Err CornersApart ≡ later
       unfolding later first
       later_apart n = rw (t, u, ne_eqb (corner_face s a p) (corner_face s b q) n) refl
 
       module _ (e : corner_face s a p ≡ corner_face s b q) where
-        later_same : a ≡ b → ClosesCircle ≡ later
+        later_same : a ≡ b → Err ClosesCircle ≡ later
         unfolding later first
         later_same o = rw (t, u, eq-eqb (corner_face s a p) (corner_face s b q) e, eq-eqb a b o) refl
 
         module _ (o : a ≢ b) where
-          later_closes : leads_to s b a ≡ true → ClosesCircle ≡ later
+          later_closes : leads_to s b a ≡ true → Err ClosesCircle ≡ later
           unfolding later first
           later_closes l = rw (t, u, eq-eqb (corner_face s a p) (corner_face s b q) e, ne_eqb a b o, l) refl
 
           module _ (l : leads_to s b a ≡ false) where
-            later_full : s.edges ≡ 256 → Full ≡ later
+            later_full : s.edges ≡ 256 → Err Full ≡ later
             unfolding later first
             later_full m = rw (t, u, eq-eqb (corner_face s a p) (corner_face s b q) e, ne_eqb a b o, l, eq-eqb s.edges 256 m) refl
 
-            later_accepted : s.edges ≢ 256 → Accepted ≡ later
+            later_accepted : s.edges ≢ 256 → Ok tt ≡ later
             unfolding later first
             later_accepted m = rw (t, u, eq-eqb (corner_face s a p) (corner_face s b q) e, ne_eqb a b o, l, ne_eqb s.edges 256 m) refl
 
@@ -104,33 +104,33 @@ module _ (s : Sheet) (a p b q : ℕ) where
     q_corner : corner_face s b q ≡ corner_of faces s.tails q b
     q_corner = corner_is s q b faces g.faced
 
-    pub first_apart : touches_of s.tails s.heads p a ≡ false → CornersApart ≡ run_answer s a p b q
+    pub first_apart : touches_of s.tails s.heads p a ≡ false → Err CornersApart ≡ run_answer s a p b q
     first_apart t = later_first (touches_is s p a ∙ t) ∙ named
 
     module _ (t : touches_of s.tails s.heads p a ≡ true) where
-      pub second_apart : touches_of s.tails s.heads q b ≡ false → CornersApart ≡ run_answer s a p b q
+      pub second_apart : touches_of s.tails s.heads q b ≡ false → Err CornersApart ≡ run_answer s a p b q
       second_apart u = later_second (touches_is s p a ∙ t) (touches_is s q b ∙ u) ∙ named
 
       module _ (u : touches_of s.tails s.heads q b ≡ true) where
-        pub corners_apart : corner_of faces s.tails p a ≢ corner_of faces s.tails q b → CornersApart ≡ run_answer s a p b q
+        pub corners_apart : corner_of faces s.tails p a ≢ corner_of faces s.tails q b → Err CornersApart ≡ run_answer s a p b q
         corners_apart n = later_apart (touches_is s p a ∙ t) (touches_is s q b ∙ u) (λ e. n (sym p_corner ∙ e ∙ q_corner)) ∙ named
 
         module _ (e : corner_of faces s.tails p a ≡ corner_of faces s.tails q b) where
           one_face : corner_face s a p ≡ corner_face s b q
           one_face = p_corner ∙ e ∙ sym q_corner
 
-          pub same_vertex : a ≡ b → ClosesCircle ≡ run_answer s a p b q
+          pub same_vertex : a ≡ b → Err ClosesCircle ≡ run_answer s a p b q
           same_vertex o = later_same (touches_is s p a ∙ t) (touches_is s q b ∙ u) one_face o ∙ named
 
           module _ (o : a ≢ b) where
-            pub closes : leads_to s b a ≡ true → ClosesCircle ≡ run_answer s a p b q
+            pub closes : leads_to s b a ≡ true → Err ClosesCircle ≡ run_answer s a p b q
             closes l = later_closes (touches_is s p a ∙ t) (touches_is s q b ∙ u) one_face o l ∙ named
 
             module _ (l : leads_to s b a ≡ false) where
-              pub no_room : s.edges ≡ 256 → Full ≡ run_answer s a p b q
+              pub no_room : s.edges ≡ 256 → Err Full ≡ run_answer s a p b q
               no_room m = later_full (touches_is s p a ∙ t) (touches_is s q b ∙ u) one_face o l m ∙ named
 
-              pub accepted : s.edges ≢ 256 → Accepted ≡ run_answer s a p b q
+              pub accepted : s.edges ≢ 256 → Ok tt ≡ run_answer s a p b q
               accepted m = later_accepted (touches_is s p a ∙ t) (touches_is s q b ∙ u) one_face o l m ∙ named
 
 -- what the check of a sheet found
@@ -148,14 +148,14 @@ module _ (s : Sheet) (found : Findings) (e : found ≡ findings_of s) where
   found_rows t = rw (e, t) refl
 
 -- what an accepted call was given
-pub given : (s : Sheet) (a p b q : ℕ) → Sized s → run_answer s a p b q ≡ Accepted → Room s a p b q
+pub given : (s : Sheet) (a p b q : ℕ) → Sized s → run_answer s a p b q ≡ Ok tt → Room s a p b q
 unfolding run_answer refusal_number
 given s a p b q z e =
-    let i = passed NotSound (not (sound s)) _ (λ w. omega arith) e in
-    let j = passed NotInSheet (no_vertex s a || no_vertex s b || no_edge s p || no_edge s q) _ (λ w. omega arith) i.1 in
-    let k = passed CornersApart (not (touches s p a) || not (touches s q b) || not (eqb (corner_face s a p) (corner_face s b q))) _ (λ w. omega arith) j.1 in
-    let l = passed ClosesCircle (eqb a b || leads_to s b a) _ (λ w. omega arith) k.1 in
-    let o = passed Full (eqb s.edges 256) _ (λ w. omega arith) l.1 in
+    let i = passed NotSound (not (sound s)) _ e in
+    let j = passed NotInSheet (no_vertex s a || no_vertex s b || no_edge s p || no_edge s q) _ i.1 in
+    let k = passed CornersApart (not (touches s p a) || not (touches s q b) || not (eqb (corner_face s a p) (corner_face s b q))) _ j.1 in
+    let l = passed ClosesCircle (eqb a b || leads_to s b a) _ k.1 in
+    let o = passed Full (eqb s.edges 256) _ l.1 in
     let S = (sound_law s z).0 (not-false (sound s) i.0) in
     let (jr, jq) = neither (no_vertex s a || no_vertex s b || no_edge s p) (no_edge s q) j.0 in
     let (jv, jp) = neither (no_vertex s a || no_vertex s b) (no_edge s p) jr in

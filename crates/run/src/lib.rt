@@ -9,10 +9,9 @@ ghost use Rattle.edit.specs.Changes.{run_edge};
 ghost use Rattle.edit.specs.Calls.{run_answer, run_call};
 ghost use Rattle.run.specs.Inner.{corner_of, Pair, Named, Room};
 
-use answers::Answer;
+use answers::Refusal;
 use clauses::dart_at;
 use counting::wide;
-use edit::Edited;
 use sheet::Sheet;
 
 // Whether edge k has an end at vertex v.
@@ -94,25 +93,21 @@ fn add_edge(s: Sheet, a: usize, p: usize, b: usize, q: usize) -> Sheet
 
 // What run refuses, in order.
 #[tactic(auto, using(crate::proofs::Answers::answers))]
-fn run_answer(s: Sheet, a: usize, p: usize, b: usize, q: usize) -> Answer
+fn run_answer(s: Sheet, a: usize, p: usize, b: usize, q: usize) -> Result<(), Refusal>
     ensures { result ≡ run_answer s a p b q }
 {
-    let found = sheet::examine(s);
-    let examined = found.answer;
-    if !answers::is_accepted(examined) {
-        return Answer::NotSound;
-    }
+    let found = sheet::examine(s)?;
     if s.vertices <= a {
-        return Answer::NotInSheet;
+        return Err(Refusal::NotInSheet);
     }
     if s.vertices <= b {
-        return Answer::NotInSheet;
+        return Err(Refusal::NotInSheet);
     }
     if s.edges <= p {
-        return Answer::NotInSheet;
+        return Err(Refusal::NotInSheet);
     }
     if s.edges <= q {
-        return Answer::NotInSheet;
+        return Err(Refusal::NotInSheet);
     }
     let faces = found.faces;
     let rows = found.rows;
@@ -129,41 +124,37 @@ fn join_answer(
     p: usize,
     b: usize,
     q: usize,
-) -> Answer
+) -> Result<(), Refusal>
     requires { Named s faces.now a p b q × (rows.now ≡ (row_levels s).level) }
     ensures { result ≡ run_answer s a p b q }
 {
     let tails = s.tails;
     let heads = s.heads;
     if !touches(&tails, &heads, p, a) {
-        return Answer::CornersApart;
+        return Err(Refusal::CornersApart);
     }
     if !touches(&tails, &heads, q, b) {
-        return Answer::CornersApart;
+        return Err(Refusal::CornersApart);
     }
     if corner(faces, &tails, p, a) != corner(faces, &tails, q, b) {
-        return Answer::CornersApart;
+        return Err(Refusal::CornersApart);
     }
     if a == b {
-        return Answer::ClosesCircle;
+        return Err(Refusal::ClosesCircle);
     }
     if leads_back(s, rows, a, b) {
-        return Answer::ClosesCircle;
+        return Err(Refusal::ClosesCircle);
     }
     if s.edges == 256 {
-        return Answer::Full;
+        return Err(Refusal::Full);
     }
-    Answer::Accepted
+    Ok(())
 }
 
 // Run: edge m goes from a to b; its end at a comes just after p clockwise, its end at b just after q.
-pub fn run(s: Sheet, a: usize, p: usize, b: usize, q: usize) -> Edited
+pub fn run(s: Sheet, a: usize, p: usize, b: usize, q: usize) -> Result<Sheet, Refusal>
     ensures { result ≡ run_call s a p b q }
 {
-    let answer = run_answer(s, a, p, b, q);
-    if !answers::is_accepted(answer) {
-        return edit::refuse(answer, s);
-    }
-    let made = add_edge(s, a, p, b, q);
-    edit::accept(made)
+    run_answer(s, a, p, b, q)?;
+    Ok(add_edge(s, a, p, b, q))
 }

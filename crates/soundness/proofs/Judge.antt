@@ -1,12 +1,8 @@
 -- Soundness test by test; and what load refuses after the last line.
 use mathlib.Core.Path.{◌≡◌}
-use mathlib.Core.Logic.{◌≢◌}
 use mathlib.Core.Bool.{true}
 use mathlib.Core.List.{[]}
-use Prim.Native.Nat.{ℕ}
-use native.Mathlib.Omega.{arith}
 use Rattle.sheet.specs.declared.Sheet.{Sheet}
-use Rattle.answers.specs.declared.Answer.TheVariants.{Accepted, BadRoot, Cyclic, BadPoles, NotPlanar}
 use Rattle.sheet.specs.Check.{within_limits, joined, in_rings, unused_zero, rooted, acyclic, poles, planar, sound, judge}
 use Rattle.soundness.specs.Laws.{Lined, JudgeLaw}
 use Rattle.soundness.proofs.Tests.{Says, reworded, and_says, itself}
@@ -35,30 +31,18 @@ pub judge_law : JudgeLaw
 unfolding judge
 judge_law s x = (
   λ e.
-      let (o, f) = (accepts root_falls (rooted s) _).0 e in
-      let (a, g) = (accepts circle_falls (acyclic s) _).0 f in
-      let (p, h) = (accepts poles_fall (poles s) _).0 g in
-      let (t, _) = (accepts planar_falls (planar s) _).0 h in
+      let (o, f) = (accepts _ (rooted s) _).0 e in
+      let (a, g) = (accepts _ (acyclic s) _).0 f in
+      let (p, h) = (accepts _ (poles s) _).0 g in
+      let (t, _) = (accepts _ (planar s) _).0 h in
       (passed_says s).1 (record { lined = x; root = o; no_circle = a; bars = p; two = t }),
   λ t.
       let y = (passed_says s).0 t in
-      (accepts root_falls (rooted s) _).1 (
+      (accepts _ (rooted s) _).1 (
         y.root,
-        (accepts circle_falls (acyclic s) _).1 (
+        (accepts _ (acyclic s) _).1 (
           y.no_circle,
-          (accepts poles_fall (poles s) _).1 (y.bars, (accepts planar_falls (planar s) []).1 (y.two, accepts_none)),
+          (accepts _ (poles s) _).1 (y.bars, (accepts _ (planar s) []).1 (y.two, accepts_none)),
         ),
       ),
 )
-  where
-    root_falls : BadRoot ≢ Accepted
-    root_falls e = let z : ◌≡◌ {A = ℕ} 0 1 = cc in omega arith
-
-    circle_falls : Cyclic ≢ Accepted
-    circle_falls e = let z : ◌≡◌ {A = ℕ} 0 1 = cc in omega arith
-
-    poles_fall : BadPoles ≢ Accepted
-    poles_fall e = let z : ◌≡◌ {A = ℕ} 0 1 = cc in omega arith
-
-    planar_falls : NotPlanar ≢ Accepted
-    planar_falls e = let z : ◌≡◌ {A = ℕ} 0 1 = cc in omega arith

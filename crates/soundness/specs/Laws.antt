@@ -1,7 +1,6 @@
 -- What is proved of sheets.
-use Rattle.std.specs.Prelude.{ℕ, ◌≤◌, ◌<◌, ◌≡◌, ◌≢◌, ◌↔◌, true}
+use Rattle.std.specs.Prelude.{ℕ, ◌≤◌, ◌<◌, ◌≡◌, ◌≢◌, ◌↔◌, true, Ok}
 use Rattle.sheet.specs.declared.Sheet.{Sheet}
-use Rattle.answers.specs.declared.Answer.TheVariants.{Accepted}
 use Rattle.sheet.specs.Darts.{Sized, tail, head}
 use Rattle.sheet.specs.Fresh.{fresh_sheet}
 use Rattle.sheet.specs.Sound.{Sound, Faces}
@@ -21,7 +20,7 @@ pub record Lined (s : Sheet) : Type 0 where
 
 -- Where it is not refused before, load accepts the sheets that are sound.
 abbrev pub JudgeLaw : Type 0
-JudgeLaw = (s : Sheet) → Lined s → judge s ≡ Accepted ↔ sound s ≡ true
+JudgeLaw = (s : Sheet) → Lined s → judge s ≡ Ok tt ↔ sound s ≡ true
 
 -- The fresh sheet is sound.
 abbrev pub FreshLaw : Type 0

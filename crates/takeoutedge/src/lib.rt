@@ -6,9 +6,8 @@ ghost use Rattle.counting.specs.Counts.{count};
 ghost use Rattle.edit.specs.Changes.{last_edge_to, take_out_edge};
 ghost use Rattle.edit.specs.Calls.{take_out_edge_answer, take_out_edge_call};
 
-use answers::Answer;
+use answers::Refusal;
 use counting::wide;
-use edit::Edited;
 use sheet::Sheet;
 
 // How many of the first m ends are at vertex v.
@@ -75,43 +74,39 @@ fn without_edge(s: Sheet, k: usize) -> Sheet
 
 // What take out an edge refuses, in order.
 #[tactic(auto, using(crate::proofs::Answers::answers))]
-fn take_out_edge_answer(s: Sheet, k: usize) -> Answer
+fn take_out_edge_answer(s: Sheet, k: usize) -> Result<(), Refusal>
     ensures { result ≡ take_out_edge_answer s k }
 {
     if !sheet::is_sound(s) {
-        return Answer::NotSound;
+        return Err(Refusal::NotSound);
     }
     let m = s.edges;
     if m <= k {
-        return Answer::NotInSheet;
+        return Err(Refusal::NotInSheet);
     }
     if k == 0 {
-        return Answer::RootEdge;
+        return Err(Refusal::RootEdge);
     }
     if m == 2 {
-        return Answer::EdgeNeeded;
+        return Err(Refusal::EdgeNeeded);
     }
     let tails = s.tails;
     let tail = wide(tails[k]);
     if degree(&tails, m, tail) == 1 {
-        return Answer::EdgeNeeded;
+        return Err(Refusal::EdgeNeeded);
     }
     let heads = s.heads;
     let head = wide(heads[k]);
     if degree(&heads, m, head) == 1 {
-        return Answer::EdgeNeeded;
+        return Err(Refusal::EdgeNeeded);
     }
-    Answer::Accepted
+    Ok(())
 }
 
 // Take out edge k: its tail must have another outgoing edge, and its head another incoming one.
-pub fn take_out_edge(s: Sheet, k: usize) -> Edited
+pub fn take_out_edge(s: Sheet, k: usize) -> Result<Sheet, Refusal>
     ensures { result ≡ take_out_edge_call s k }
 {
-    let answer = take_out_edge_answer(s, k);
-    if !answers::is_accepted(answer) {
-        return edit::refuse(answer, s);
-    }
-    let made = without_edge(s, k);
-    edit::accept(made)
+    take_out_edge_answer(s, k)?;
+    Ok(without_edge(s, k))
 }

@@ -1,4 +1,5 @@
 -- What take out a vertex answers, test by test; and what acceptance says. Assumes nothing.
+use Rattle.std.specs.Prelude.{Ok, Err}
 use Prim.Native.Nat.{ℕ, ◌≤◌, ◌<◌}
 use mathlib.Core.Path.{◌≡◌, refl}
 use mathlib.Core.Logic.{◌≢◌}
@@ -7,7 +8,7 @@ use native.Mathlib.Omega.{arith}
 use lib.Dec.{eqb}
 use borrow.Author.Tests.{le-leb, lt-leb, eq-eqb, ne_eqb, eqb-true}
 use Rattle.counting.specs.Below.{lowest_below}
-use Rattle.answers.specs.declared.Answer.TheVariants.{Accepted, NotSound, NotInSheet, VertexNeeded}
+use Rattle.answers.specs.declared.Refusal.TheVariants.{NotSound, NotInSheet, VertexNeeded}
 use Rattle.answers.specs.Answers.{refusal_number}
 use Rattle.answers.specs.Refusals.{first}
 use Rattle.sheet.specs.declared.Sheet.{Sheet}
@@ -22,36 +23,36 @@ use Rattle.edit.specs.Changes.{incoming_edge, outgoing_edge}
 use Rattle.edit.specs.Calls.{no_vertex, out_degree, in_degree, take_out_vertex_answer}
 
 module _ (s : Sheet) (v : ℕ) where
-  pub not_sound : sound s ≡ false → NotSound ≡ take_out_vertex_answer s v
+  pub not_sound : sound s ≡ false → Err NotSound ≡ take_out_vertex_answer s v
   unfolding take_out_vertex_answer first
   not_sound e = rw e refl
 
   module _ (S : sound s ≡ true) where
-    pub not_in_sheet : s.vertices ≤ v → NotInSheet ≡ take_out_vertex_answer s v
+    pub not_in_sheet : s.vertices ≤ v → Err NotInSheet ≡ take_out_vertex_answer s v
     unfolding take_out_vertex_answer first
     not_in_sheet h = rw (S, le-leb s.vertices v h) refl
 
     module _ (h : v < s.vertices) where
-      pub is_source : v ≡ 0 → VertexNeeded ≡ take_out_vertex_answer s v
+      pub is_source : v ≡ 0 → Err VertexNeeded ≡ take_out_vertex_answer s v
       unfolding take_out_vertex_answer first
       is_source e = rw (S, lt-leb s.vertices v h, eq-eqb v 0 e) refl
 
       module _ (n : v ≢ 0) where
-        pub is_sink : v ≡ 1 → VertexNeeded ≡ take_out_vertex_answer s v
+        pub is_sink : v ≡ 1 → Err VertexNeeded ≡ take_out_vertex_answer s v
         unfolding take_out_vertex_answer first
         is_sink e = rw (S, lt-leb s.vertices v h, ne_eqb v 0 n, eq-eqb v 1 e) refl
 
         module _ (m : v ≢ 1) where
-          pub wrong_in : in_degree s v ≢ 1 → VertexNeeded ≡ take_out_vertex_answer s v
+          pub wrong_in : in_degree s v ≢ 1 → Err VertexNeeded ≡ take_out_vertex_answer s v
           unfolding take_out_vertex_answer first
           wrong_in e = rw (S, lt-leb s.vertices v h, ne_eqb v 0 n, ne_eqb v 1 m, ne_eqb (in_degree s v) 1 e) refl
 
           module _ (i : in_degree s v ≡ 1) where
-            pub wrong_out : out_degree s v ≢ 1 → VertexNeeded ≡ take_out_vertex_answer s v
+            pub wrong_out : out_degree s v ≢ 1 → Err VertexNeeded ≡ take_out_vertex_answer s v
             unfolding take_out_vertex_answer first
             wrong_out e = rw (S, lt-leb s.vertices v h, ne_eqb v 0 n, ne_eqb v 1 m, eq-eqb (in_degree s v) 1 i, ne_eqb (out_degree s v) 1 e) refl
 
-            pub accepted : out_degree s v ≡ 1 → Accepted ≡ take_out_vertex_answer s v
+            pub accepted : out_degree s v ≡ 1 → Ok tt ≡ take_out_vertex_answer s v
             unfolding take_out_vertex_answer first
             accepted e = rw (S, lt-leb s.vertices v h, ne_eqb v 0 n, ne_eqb v 1 m, eq-eqb (in_degree s v) 1 i, eq-eqb (out_degree s v) 1 e) refl
 
@@ -76,15 +77,15 @@ found_out s v i o p = omega (arith, p, outgoing_in s v o)
 pub ruleset found = (found_in, found_out)
 
 -- what an accepted call was given
-pub given : (s : Sheet) (v : ℕ) → Sized s → take_out_vertex_answer s v ≡ Accepted
+pub given : (s : Sheet) (v : ℕ) → Sized s → take_out_vertex_answer s v ≡ Ok tt
     → (v < s.vertices) × (s.vertices ≤ 128) × (s.edges ≤ 256) × (in_degree s v ≡ 1) × (out_degree s v ≡ 1)
 unfolding take_out_vertex_answer refusal_number
 given s v z e =
-    let a = passed NotSound (not (sound s)) _ (λ q. omega arith) e in
-    let b = passed NotInSheet (no_vertex s v) _ (λ q. omega arith) a.1 in
+    let a = passed NotSound (not (sound s)) _ e in
+    let b = passed NotInSheet (no_vertex s v) _ a.1 in
     let ins = eqb (in_degree s v) 1 in
     let out = eqb (out_degree s v) 1 in
-    let d = neither (eqb v 0 || eqb v 1) (not (ins && out)) (passed VertexNeeded (eqb v 0 || eqb v 1 || not (ins && out)) _ (λ q. omega arith) b.1).0 in
+    let d = neither (eqb v 0 || eqb v 1) (not (ins && out)) (passed VertexNeeded (eqb v 0 || eqb v 1 || not (ins && out)) _ b.1).0 in
     let g = (and-eq-true_iff ins out).0 (not-false (ins && out) d.1) in
     let S = (sound_law s z).0 (not-false (sound s) a.0) in
     (not_at_most s.vertices v b.0, S.limits.vertices_most, S.limits.edges_most, eqb-true (in_degree s v) 1 g.0, eqb-true (out_degree s v) 1 g.1)

@@ -6,9 +6,8 @@ ghost use Rattle.counting.specs.Below.{lowest_below};
 ghost use Rattle.edit.specs.Changes.{last_vertex_to, take_out_vertex};
 ghost use Rattle.edit.specs.Calls.{in_degree, out_degree, take_out_vertex_answer, take_out_vertex_call};
 
-use answers::Answer;
+use answers::Refusal;
 use counting::wide;
-use edit::Edited;
 use sheet::Sheet;
 use takeoutedge::{degree, last_edge_to};
 
@@ -74,42 +73,38 @@ fn without_vertex(s: Sheet, v: usize) -> Sheet
 
 // What take out a vertex refuses, in order.
 #[tactic(auto, using(takeoutedge::proofs::Answers::few_edges, crate::proofs::Answers::answers), unfolding(edit::specs::Calls::in_degree, edit::specs::Calls::out_degree))]
-fn take_out_vertex_answer(s: Sheet, v: usize) -> Answer
+fn take_out_vertex_answer(s: Sheet, v: usize) -> Result<(), Refusal>
     ensures { result ≡ take_out_vertex_answer s v }
 {
     if !sheet::is_sound(s) {
-        return Answer::NotSound;
+        return Err(Refusal::NotSound);
     }
     let n = s.vertices;
     if n <= v {
-        return Answer::NotInSheet;
+        return Err(Refusal::NotInSheet);
     }
     if v == 0 {
-        return Answer::VertexNeeded;
+        return Err(Refusal::VertexNeeded);
     }
     if v == 1 {
-        return Answer::VertexNeeded;
+        return Err(Refusal::VertexNeeded);
     }
     let m = s.edges;
     let heads = s.heads;
     if degree(&heads, m, v) != 1 {
-        return Answer::VertexNeeded;
+        return Err(Refusal::VertexNeeded);
     }
     let tails = s.tails;
     if degree(&tails, m, v) != 1 {
-        return Answer::VertexNeeded;
+        return Err(Refusal::VertexNeeded);
     }
-    Answer::Accepted
+    Ok(())
 }
 
 // Take out vertex v: it must have exactly one incoming and one outgoing edge.
-pub fn take_out_vertex(s: Sheet, v: usize) -> Edited
+pub fn take_out_vertex(s: Sheet, v: usize) -> Result<Sheet, Refusal>
     ensures { result ≡ take_out_vertex_call s v }
 {
-    let answer = take_out_vertex_answer(s, v);
-    if !answers::is_accepted(answer) {
-        return edit::refuse(answer, s);
-    }
-    let made = without_vertex(s, v);
-    edit::accept(made)
+    take_out_vertex_answer(s, v)?;
+    Ok(without_vertex(s, v))
 }

@@ -1,4 +1,5 @@
 -- What write drawing answers, by what draw answered. Assumes nothing.
+use Rattle.std.specs.Prelude.{Ok}
 use Prim.Native.Nat.{ℕ, ◌≤◌, ◌<◌}
 use mathlib.Core.Path.{◌≡◌, refl, sym, ap, ◌∙◌}
 use mathlib.Core.Bool.{true, false}
@@ -6,7 +7,7 @@ use mathlib.Core.List.{List}
 use lib.ListN.{length}
 use lib.Seq.{sets}
 use Rattle.counting.proofs.Iterate.{by_bool}
-use Rattle.answers.specs.declared.Answer.TheVariants.{Accepted, NotSound, BufferTooShort}
+use Rattle.answers.specs.declared.Refusal.TheVariants.{NotSound, BufferTooShort}
 use Rattle.answers.specs.Answers.{refusal_number}
 use Rattle.answers.specs.Refusals.{first, is_accepted}
 use Rattle.sheet.specs.declared.Sheet.{Sheet}
@@ -43,7 +44,7 @@ module _ (s : Sheet) (e : sound s ≡ true) where
     short_buffer h = too_short s _ buffer e (rw q at h)
 
     pub drawing_put : length (text_for s d) ≤ length buffer → (count : ℕ) → count ≡ length (text_for s d) → (out : List ℕ) → out ≡ sets buffer 0 (text_for s d)
-        → Outcome s buffer (record { answer = Accepted; count = count }) out
+        → Outcome s buffer (record { answer = Ok tt; count = count }) out
     drawing_put h count n out o = text_put s _ buffer e (rw q at h) count (rw q at n) out (rw q at o)
 
 -- by what draw answered

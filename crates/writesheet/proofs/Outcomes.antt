@@ -1,4 +1,5 @@
 -- What a writer answers, and what it leaves in the buffer. Assumes nothing.
+use Rattle.std.specs.Prelude.{Ok}
 use Prim.Native.Nat.{ℕ, ◌≤◌, ◌<◌}
 use mathlib.Core.Path.{◌≡◌, refl, ap, ◌∙◌}
 use mathlib.Core.Bool.{true, false}
@@ -8,7 +9,7 @@ use lib.ListN.{length}
 use lib.Seq.{sets, sets-eq}
 use borrow.Author.Tests.{lt-ltb, le-ltb}
 use Rattle.sheet.specs.declared.Sheet.{Sheet}
-use Rattle.answers.specs.declared.Answer.TheVariants.{Accepted, NotSound, BufferTooShort}
+use Rattle.answers.specs.declared.Refusal.TheVariants.{NotSound, BufferTooShort}
 use Rattle.answers.specs.Answers.{refusal_number}
 use Rattle.answers.specs.Refusals.{first, is_accepted}
 use Rattle.sheet.specs.Check.{sound}
@@ -29,8 +30,8 @@ module _ (s : Sheet) (text buffer : List ℕ) where
   too_short e h = rw (e, lt-ltb (length buffer) (length text) h) (refl, refl)
 
   pub text_put : sound s ≡ true → length text ≤ length buffer → (count : ℕ) → count ≡ length text → (out : List ℕ) → out ≡ sets buffer 0 text
-      → Outcome s text buffer (record { answer = Accepted; count = count }) out
+      → Outcome s text buffer (record { answer = Ok tt; count = count }) out
   unfolding write_answer written buffer_after first is_accepted refusal_number
   text_put e h count n out q =
       rw (e, le-ltb (length buffer) (length text) h)
-      (ap (λ k. record { answer = Accepted; count = k }) n, q ∙ sets-eq text buffer 0 (rw zero-add h) ∙ rw zero-add refl)
+      (ap (λ k. record { answer = Ok tt; count = k }) n, q ∙ sets-eq text buffer 0 (rw zero-add h) ∙ rw zero-add refl)

@@ -4,8 +4,8 @@ use Rattle.counting.specs.Below.{join_below}
 use Rattle.counting.specs.Choice.{pick}
 use Rattle.text.specs.Written.{line}
 use Rattle.sheet.specs.declared.Sheet.{Sheet}
-use Rattle.answers.specs.declared.Answer.{Answer}
-use Rattle.answers.specs.declared.Answer.TheVariants.{NotSound, BufferTooShort}
+use Rattle.answers.specs.Answers.{Answer}
+use Rattle.answers.specs.declared.Refusal.TheVariants.{NotSound, BufferTooShort}
 use Rattle.answers.specs.Refusals.{first, ◌if◌, is_accepted}
 use Rattle.sheet.specs.Darts.{tail, head}
 use Rattle.sheet.specs.Check.{sound}

@@ -1,6 +1,6 @@
 use mathlib.Core.Path.{sym, ◌∙◌}
 use native.Mathlib.Omega.{arith}
-use Rattle.answers.specs.declared.Answer.TheVariants.{InputTooLong}
+use Rattle.answers.specs.declared.Refusal.TheVariants.{InputTooLong}
 use Rattle.program.proofs.Bound.{refused_short}
 use Rattle.program.proofs.Cases.{as_output, too_long, load_refused, loaded_whole, load_accepted}
 use Rattle.program.proofs.put_output.Goals as goal

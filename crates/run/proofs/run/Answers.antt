@@ -1,19 +1,19 @@
 -- `run::run` meets its contract. By its answer. Assumes nothing.
-use Rattle.std.proofs.Common.{rules}
+use Rattle.std.proofs.Common.{◌≡◌, sym, ◌∙◌, rules, Err}
+use Rattle.answers.proofs.Refusals.{answering_refused, answering_accepted}
 use Rattle.edit.specs.Changes.{run_edge}
-use Rattle.edit.proofs.Outcomes.{refused_edit, was_accepted, accepted_edit}
 use Rattle.run.proofs.Answers.{given}
 use Rattle.run.proofs.run.Goals as goal
 
-pub returns-then-not-is_accepted : goal.returns-then-not-is_accepted
-returns-then-not-is_accepted c = let a = c.args in
-    refused_edit a.s (λ _. run_edge a.s a.a a.p a.b a.q) _ _ c.run_answer-answer.ensures _ c.is_accepted.ensures c.if-not-is_accepted.true-raw _ c.refuse.ensures
-
-pub add_edge-made-requires : goal.add_edge-made-requires
-add_edge-made-requires c =
+pub returns-in_err-run_answer : goal.returns-in_err-run_answer
+returns-in_err-run_answer c =
     let a = c.args in
-    given a.s a.a a.p a.b a.q (search rules) (was_accepted a.s (λ _. run_edge a.s a.a a.p a.b a.q) _ _ c.run_answer-answer.ensures _ c.is_accepted.ensures c.if-not-is_accepted.false-raw)
+    let e : c.from_residual.result ≡ Err c.in_err-run_answer.field-0.0 = search rules in
+    e ∙ answering_refused _ (λ _. run_edge a.s a.a a.p a.b a.q) _ (sym c.run_answer.ensures ∙ c.in_err-run_answer.was)
+
+pub add_edge-requires : goal.add_edge-requires
+add_edge-requires c = let a = c.args in given a.s a.a a.p a.b a.q (search rules) (sym c.run_answer.ensures ∙ c.in_ok-run_answer.was)
 
 pub returns : goal.returns
 returns c = let a = c.args in
-    accepted_edit a.s (λ _. run_edge a.s a.a a.p a.b a.q) _ _ c.run_answer-answer.ensures _ c.is_accepted.ensures c.if-not-is_accepted.false-raw _ c.add_edge-made.ensures _ c.accept.ensures
+    answering_accepted _ (λ _. run_edge a.s a.a a.p a.b a.q) (sym c.run_answer.ensures ∙ c.in_ok-run_answer.was) _ c.add_edge.ensures

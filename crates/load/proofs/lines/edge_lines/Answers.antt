@@ -6,7 +6,7 @@ use mathlib.Core.Bool.{true}
 use mathlib.Core.Logic.{◌≢◌}
 use lib.ListN.{length-set}
 use native.Mathlib.Omega.{arith}
-use Rattle.answers.specs.declared.Answer.TheVariants.{BadLayout, BadEdge}
+use Rattle.answers.specs.declared.Refusal.TheVariants.{BadLayout, BadEdge}
 use Rattle.clauses.proofs.Touching.{joins_means}
 use Rattle.load.proofs.Turns.{edges_refused, edges_next, edges_over, edge_line_bad, Joins, edge_bad, edge_good, apart_more}
 use Rattle.load.proofs.Ends.{counted_most, counted_more, more_length, more_other}
