@@ -4,20 +4,26 @@
 ghost use Rattle.std.specs.Prelude.{◌≡◌};
 ghost use Rattle.edit.specs.Calls.{apply};
 
-use answers::Answer;
-use counting::wide;
-use edit::{Edit, Edited};
+use answers::Refusal;
+use edit::Edit;
 use sheet::Sheet;
 
 // Applies an edit, whichever it is; a line that is not of the layout is refused 1.
-pub fn apply(s: Sheet, e: Edit) -> Edited
+#[tactic(auto, unfolding(edit::specs::Calls::apply, answers::specs::Refusals::answering))]
+pub fn apply(s: Sheet, e: Edit) -> Result<Sheet, Refusal>
     ensures { result ≡ apply s e }
 {
     match e {
-        Edit::In(k) => putin::put_in(s, wide(k)),
-        Edit::Run(a, p, b, q) => run::run(s, wide(a), wide(p), wide(b), wide(q)),
-        Edit::Out(k) => takeoutedge::take_out_edge(s, wide(k)),
-        Edit::Off(v) => takeoutvertex::take_out_vertex(s, wide(v)),
-        Edit::Refused => edit::refuse(Answer::BadLayout, s),
+        Edit::In(k) => putin::put_in(s, usize::from(k)),
+        Edit::Run(a, p, b, q) => run::run(
+            s,
+            usize::from(a),
+            usize::from(p),
+            usize::from(b),
+            usize::from(q),
+        ),
+        Edit::Out(k) => takeoutedge::take_out_edge(s, usize::from(k)),
+        Edit::Off(v) => takeoutvertex::take_out_vertex(s, usize::from(v)),
+        Edit::Refused => Err(Refusal::BadLayout),
     }
 }

@@ -11,14 +11,11 @@ use borrow.Author.Tests.{le-leb, lt-leb, eq-eqb, ne_eqb}
 use Rattle.clauses.specs.Darts.{touches_of}
 use Rattle.counting.proofs.Iterate.{by_bool, not-false}
 use Rattle.answers.specs.declared.Refusal.TheVariants.{NotSound, NotInSheet, CornersApart, ClosesCircle, Full}
-use Rattle.answers.specs.Answers.{Answer, refusal_number}
-use Rattle.answers.specs.Refusals.{first, ◌if◌, is_accepted}
+use Rattle.answers.specs.Answers.{Answer}
+use Rattle.answers.specs.Refusals.{first, ◌if◌}
 use Rattle.answers.proofs.Refusals.{passed}
 use Rattle.sheet.specs.declared.Sheet.{Sheet}
-use Rattle.sheet.specs.declared.Findings.{Findings}
-use Rattle.sheet.specs.Inner as findings
-use Rattle.sheet.specs.Inner.{findings_of, refused}
-use Rattle.sheet.specs.Check.{sound, face_table, row_levels}
+use Rattle.sheet.specs.Check.{sound}
 use Rattle.sheet.specs.Darts.{Sized, touches}
 use Rattle.soundness.proofs.Law.{sound_law}
 use Rattle.preservation.proofs.Accepted.{neither, other_number, not_at_most}
@@ -133,23 +130,9 @@ module _ (s : Sheet) (a p b q : ℕ) where
               pub accepted : s.edges ≢ 256 → Ok tt ≡ run_answer s a p b q
               accepted m = later_accepted (touches_is s p a ∙ t) (touches_is s q b ∙ u) one_face o l m ∙ named
 
--- what the check of a sheet found
-module _ (s : Sheet) (found : Findings) (e : found ≡ findings_of s) where
-  pub found_sound : is_accepted found.answer ≡ sound s
-  unfolding findings_of findings.accepted refused is_accepted refusal_number
-  found_sound = rw e (by_bool (sound s) (λ t. rw t refl) (λ t. rw t refl))
-
-  pub found_faces : sound s ≡ true → found.faces ≡ (face_table s).orbit
-  unfolding findings_of findings.accepted
-  found_faces t = rw (e, t) refl
-
-  pub found_rows : sound s ≡ true → found.rows ≡ (row_levels s).level
-  unfolding findings_of findings.accepted
-  found_rows t = rw (e, t) refl
-
 -- what an accepted call was given
 pub given : (s : Sheet) (a p b q : ℕ) → Sized s → run_answer s a p b q ≡ Ok tt → Room s a p b q
-unfolding run_answer refusal_number
+unfolding run_answer
 given s a p b q z e =
     let i = passed NotSound (not (sound s)) _ e in
     let j = passed NotInSheet (no_vertex s a || no_vertex s b || no_edge s p || no_edge s q) _ i.1 in
@@ -168,9 +151,6 @@ given s a p b q z e =
       q_in = not_at_most s.edges q jq;
       room = omega (arith, S.limits.edges_most, other_number s.edges 256 o.0);
     }
-
--- a law for each answer before the two corners are looked at, and what the check of soundness found
-pub ruleset answers = (not_sound, no_start, no_end, no_first, no_second, found_sound, found_faces, found_rows)
 
 -- what is named is a pair of vertices of a sound sheet, which has at most 256 edges
 module _ {s : Sheet} {faces : List ℕ} {a p b q : ℕ} (g : Named s faces a p b q) where

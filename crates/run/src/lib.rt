@@ -92,7 +92,6 @@ fn add_edge(s: Sheet, a: usize, p: usize, b: usize, q: usize) -> Sheet
 }
 
 // What run refuses, in order.
-#[tactic(auto, using(crate::proofs::Answers::answers))]
 fn run_answer(s: Sheet, a: usize, p: usize, b: usize, q: usize) -> Result<(), Refusal>
     ensures { result ≡ run_answer s a p b q }
 {
@@ -109,9 +108,7 @@ fn run_answer(s: Sheet, a: usize, p: usize, b: usize, q: usize) -> Result<(), Re
     if s.edges <= q {
         return Err(Refusal::NotInSheet);
     }
-    let faces = found.faces;
-    let rows = found.rows;
-    join_answer(s, &faces, &rows, a, p, b, q)
+    join_answer(s, &found.faces, &found.rows, a, p, b, q)
 }
 
 // What run refuses of a sound sheet whose vertices and edges are named, in order.
@@ -128,15 +125,13 @@ fn join_answer(
     requires { Named s faces.now a p b q × (rows.now ≡ (row_levels s).level) }
     ensures { result ≡ run_answer s a p b q }
 {
-    let tails = s.tails;
-    let heads = s.heads;
-    if !touches(&tails, &heads, p, a) {
+    if !touches(&s.tails, &s.heads, p, a) {
         return Err(Refusal::CornersApart);
     }
-    if !touches(&tails, &heads, q, b) {
+    if !touches(&s.tails, &s.heads, q, b) {
         return Err(Refusal::CornersApart);
     }
-    if corner(faces, &tails, p, a) != corner(faces, &tails, q, b) {
+    if corner(faces, &s.tails, p, a) != corner(faces, &s.tails, q, b) {
         return Err(Refusal::CornersApart);
     }
     if a == b {
