@@ -1,5 +1,5 @@
 -- The loops over the lines, turn by turn: what is left to read gives what the whole gives. Assumes nothing.
-use Rattle.std.specs.Prelude.{Ok}
+use Rattle.std.specs.Prelude.{Ok, Err}
 use Prim.Native.Nat.{ℕ, zero, suc, ◌+◌, ◌-◌, ◌≤◌, ◌<◌}
 use mathlib.Core.Path.{◌≡◌, refl, sym, ap, ◌∙◌}
 use mathlib.Core.Logic.{◌≢◌, by_cases}
@@ -24,7 +24,7 @@ use Rattle.text.proofs.Counted.{one_is, one_not, two_is, two_not}
 use Rattle.sheet.specs.declared.Sheet.{Sheet}
 use Rattle.answers.specs.Refusals.{is_accepted}
 use Rattle.sheet.specs.Check.{judge}
-use Rattle.answers.specs.Answers.{Answer}
+use Rattle.answers.specs.declared.Refusal.{Refusal}
 use Rattle.answers.specs.declared.Refusal.TheVariants.{BadLayout, CountOutOfLimits, BadEdge}
 use Rattle.load.specs.declared.lines.Count.{Count}
 use Rattle.load.specs.declared.lines.Count.TheVariants as counts
@@ -32,8 +32,7 @@ use Rattle.load.specs.declared.lines.Step.{Step}
 use Rattle.load.specs.declared.lines.Step.TheVariants.{Next, Refused}
 use Rattle.text.specs.Keys.{wire_key, around_key}
 use Rattle.load.specs.Rings.{is_rotation, link_from, link_ring}
-use Rattle.load.specs.Load.{Parsed, empty_sheet, with_edge, with_nexts, judged, ring_lines, edge_lines, with_count, loaded}
-use Rattle.load.specs.Load.Parsed.{refused}
+use Rattle.load.specs.Load.{Parsed, empty_sheet, with_edge, with_nexts, judged, ring_lines, edge_lines, with_count}
 use Rattle.sheet.specs.Darts.{sheet_of}
 use Rattle.load.specs.Inner.{no_nexts, count_of, Apart, Counted, after_edges, EdgesRead, after_rings, fit_from, linked_from, linked, Ringed, ringed, unringed, ringed_by, linked_on, ring_from, RingRead}
 use Rattle.load.proofs.Occurrences.{rotation_if, rotation_length, rotation_fits}
@@ -58,7 +57,7 @@ module _ (most : ℕ) (l : Listed) where
   -- what load goes on to
   go_on : (ℕ → ℕ → Parsed) → Count → Parsed
   go_on good (counts.Value n next) = good n next
-  go_on good (counts.Refused a) = refused a
+  go_on good (counts.Refused a) = Err a
 
   with_count_law : (good : ℕ → ℕ → Parsed) → with_count l most good ≡ go_on good (count_of most l)
   unfolding with_count count_of go_on with_one
@@ -70,7 +69,7 @@ module _ (most : ℕ) (l : Listed) where
       go (listed (a ∷ []) next) = by_bool (leb 2 a && leb a most) (λ t. rw t refl) (λ f. rw f refl)
       go (listed (a ∷ b ∷ vs) next) = refl
 
-  pub count_refused : (good : ℕ → ℕ → Parsed) (a : Answer) → count_of most l ≡ counts.Refused a → refused a ≡ with_count l most good
+  pub count_refused : (good : ℕ → ℕ → Parsed) (a : Refusal) → count_of most l ≡ counts.Refused a → Err a ≡ with_count l most good
   unfolding go_on
   count_refused good a e = sym (with_count_law good ∙ rw e refl)
 
@@ -108,24 +107,24 @@ module _ (text : List ℕ) (n m : ℕ) (whole : Parsed) (at k : ℕ) (tails head
   edges_over h = let z : m - k ≡ 0 = omega arith in rw z at rest
 
   module _ (more : k < m) where
-    pub edge_line_bad : pair_of (line_at wire_key text at) ≡ Other → refused BadLayout ≡ whole
+    pub edge_line_bad : pair_of (line_at wire_key text at) ≡ Other → Err BadLayout ≡ whole
     unfolding edge_lines
     edge_line_bad e =
         let z : m - k ≡ suc (m - (k + 1)) = omega arith in
-        sym (two_not (refused BadLayout) _ (line_at wire_key text at) e) ∙ rw z at rest
+        sym (two_not (Err BadLayout) _ (line_at wire_key text at) e) ∙ rw z at rest
 
     module _ (a b next : ℕ) (e : pair_of (line_at wire_key text at) ≡ Two a b next) where
-      pub edge_bad : Joins n a b ≡ false → refused BadEdge ≡ whole
+      pub edge_bad : Joins n a b ≡ false → Err BadEdge ≡ whole
       unfolding edge_lines
       edge_bad test =
           let z : m - k ≡ suc (m - (k + 1)) = omega arith in
-          rw test at (sym (two_is (refused BadLayout) _ (line_at wire_key text at) a b next e) ∙ rw z at rest)
+          rw test at (sym (two_is (Err BadLayout) _ (line_at wire_key text at) a b next e) ∙ rw z at rest)
 
       pub edge_good : Joins n a b ≡ true → edge_lines (m - (k + 1)) text (sheet_of n m (set tails k a) (set heads k b) no_nexts) (k + 1) next ≡ whole
       unfolding edge_lines with_edge
       edge_good test =
           let z : m - k ≡ suc (m - (k + 1)) = omega arith in
-          rw test at (sym (two_is (refused BadLayout) _ (line_at wire_key text at) a b next e) ∙ rw z at rest)
+          rw test at (sym (two_is (Err BadLayout) _ (line_at wire_key text at) a b next e) ∙ rw z at rest)
 
 -- one edge more
 pub apart_more : (k a b : ℕ) (tails heads : List ℕ) → k < length tails → k < length heads → a ≢ b → Apart k tails heads → Apart (k + 1) (set tails k a) (set heads k b)
@@ -135,10 +134,10 @@ apart_more k a b tails heads ht hh n old i l =
     (λ e. rw (get_or-set_other tails k i a 0 e, get_or-set_other heads k i b 0 e) (old i (omega arith)))
 
 module _ (text : List ℕ) (n m start : ℕ) (tails₀ heads₀ tails heads degrees : List ℕ) where
-  refused_next : (a : Answer) (at : ℕ) → Refused a ≡ Next at → ⊥
+  refused_next : (a : Refusal) (at : ℕ) → Refused a ≡ Next at → ⊥
   refused_next a at q = let z : ◌≡◌ {A = ℕ} 0 1 = cc in omega arith
 
-  pub edges_refused : (a : Answer) → refused a ≡ edge_lines m text (sheet_of n m tails₀ heads₀ no_nexts) 0 start
+  pub edges_refused : (a : Refusal) → Err a ≡ edge_lines m text (sheet_of n m tails₀ heads₀ no_nexts) 0 start
       → EdgesRead text n m start tails₀ heads₀ tails heads degrees (Refused a)
   unfolding after_edges
   edges_refused a e = record { rest = e; apart = λ at q. absurd (refused_next a at q); counted = λ at q. absurd (refused_next a at q) }
@@ -150,7 +149,7 @@ module _ (text : List ℕ) (n m start : ℕ) (tails₀ heads₀ tails heads degr
 
 -- what load goes on to
 module _ (text : List ℕ) (n m : ℕ) (tails heads : List ℕ) (r : Step) (whole : Parsed) (rest : after_edges text n m tails heads r ≡ whole) where
-  pub after_edges_refused : (a : Answer) → r ≡ Refused a → refused a ≡ whole
+  pub after_edges_refused : (a : Refusal) → r ≡ Refused a → Err a ≡ whole
   unfolding after_edges
   after_edges_refused a e = rw e at rest
 
@@ -190,7 +189,7 @@ module _ (text : List ℕ) (n m : ℕ) (tails heads : List ℕ) (whole : Parsed)
   -- a line that was read: what load goes on to
   go_line : Ringed → Parsed
   go_line (ringed next after) = ring_lines (n - (v + 1)) text (sheet_of n m tails heads after) (v + 1) next
-  go_line (unringed a) = refused a
+  go_line (unringed a) = Err a
 
   module _ (more : v < n) (seen : List ℕ) (room : m ≤ length seen) (clear : (k : ℕ) → get_or seen k 0 ≤ v) (degree : ℕ) (d : degree ≡ count (λ k. touches_of tails heads k v) m) where
     misfit : (ws : List ℕ) → is_rotation (sheet_of n m tails heads nexts) v ws ≡ false → (fit_from m tails heads v seen ws && eqb (0 + length ws) degree) ≡ false
@@ -217,7 +216,7 @@ module _ (text : List ℕ) (n m : ℕ) (tails heads : List ℕ) (whole : Parsed)
             (λ f. rw (misfit ws f) (rw (z, e, f) at rest))
 
     module _ (seen' after : List ℕ) (r : Step) (read : RingRead text at degree m tails heads v seen nexts seen' after r) where
-      pub ring_line_refused : (a : Answer) → r ≡ Refused a → refused a ≡ whole
+      pub ring_line_refused : (a : Refusal) → r ≡ Refused a → Err a ≡ whole
       unfolding go_line ringed_by
       ring_line_refused a e = rw e at (ap go_line read.rest ∙ line_is)
 
@@ -227,7 +226,7 @@ module _ (text : List ℕ) (n m : ℕ) (tails heads : List ℕ) (whole : Parsed)
 
 -- what load goes on to
 module _ (n m : ℕ) (tails heads nexts : List ℕ) (r : Step) (whole : Parsed) (rest : after_rings n m tails heads nexts r ≡ whole) where
-  pub after_rings_refused : (a : Answer) → r ≡ Refused a → refused a ≡ whole
+  pub after_rings_refused : (a : Refusal) → r ≡ Refused a → Err a ≡ whole
   unfolding after_rings
   after_rings_refused a e = rw e at rest
 
@@ -235,13 +234,3 @@ module _ (n m : ℕ) (tails heads nexts : List ℕ) (r : Step) (whole : Parsed) 
   unfolding after_rings
   after_rings_next at e = rw e at rest
 
--- ---- after the last line
-
-module _ (s : Sheet) (next : ℕ) (answer : Answer) (e : answer ≡ judge s) where
-  pub judged_refused : is_accepted answer ≡ false → refused answer ≡ judged s next
-  unfolding judged
-  judged_refused f = rw (← e, f) refl
-
-  pub judged_accepted : is_accepted answer ≡ true → (present : Sheet) → record { answer = Ok tt; sheet = s; taken = next } ≡ loaded present (judged s next)
-  unfolding judged loaded
-  judged_accepted t present = rw (← e, t) refl

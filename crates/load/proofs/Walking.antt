@@ -21,7 +21,7 @@ use Rattle.text.specs.Reading.Listed.{listed, unlisted}
 use Rattle.text.proofs.DigitLaws.{inside, number_ahead}
 use Rattle.text.proofs.Listing.{numbers_none, numbers_last, numbers_more}
 use Rattle.text.proofs.Closing.{starts_length, closing_ended, closing_open, keyed, keyless}
-use Rattle.answers.specs.Answers.{Answer}
+use Rattle.answers.specs.declared.Refusal.{Refusal}
 use Rattle.answers.specs.declared.Refusal.TheVariants.{BadLayout, BadRotation}
 use Rattle.load.specs.declared.lines.Step.{Step}
 use Rattle.load.specs.declared.lines.Step.TheVariants.{Next, Refused}
@@ -312,7 +312,7 @@ module _ (m : ℕ) (tails heads : List ℕ) (v : ℕ) where
           let n = absent seen (number_at text at) (sym b ∙ er) in
           record { rest = rw (numbers_none text at n) at walked.rest; marks = kept; size = same }
 
-      pub line_unfit : (next : ℕ) → r ≡ Unfit next → (a : Answer) → a ≡ refusal_of (closed text (rest_at text next)) → Read marked nexts (Refused a)
+      pub line_unfit : (next : ℕ) → r ≡ Unfit next → (a : Refusal) → a ≡ refusal_of (closed text (rest_at text next)) → Read marked nexts (Refused a)
       unfolding ringed_by
       line_unfit next b a ea =
           let n = misfit seen (number_at text at) next (sym b ∙ er) in

@@ -1,5 +1,5 @@
 -- Load in the steps of its functions, over the record's arrays.
-use Rattle.std.specs.Prelude.{ℕ, ◌+◌, ◌≤◌, ◌<◌, ◌≡◌, ◌≢◌, Bool, true, false, cond, not, ◌&&◌, List, [], ◌∷◌, eqb, ltb, leb, get_or, set, length, replicate}
+use Rattle.std.specs.Prelude.{ℕ, ◌+◌, ◌≤◌, ◌<◌, ◌≡◌, ◌≢◌, Bool, true, false, cond, not, ◌&&◌, List, [], ◌∷◌, eqb, ltb, leb, get_or, set, length, replicate, Err}
 use Rattle.clauses.specs.Darts.{touches_of, dart_of}
 use Rattle.counting.specs.Counts.{count}
 use Rattle.text.specs.declared.Number.{Number}
@@ -9,7 +9,7 @@ use Rattle.text.specs.Reading.{Listed, numbers_at, line_at}
 use Rattle.text.specs.Reading.Listed.{listed, unlisted}
 use Rattle.text.specs.Shapes.{with_one}
 use Rattle.sheet.specs.Darts.{sheet_of}
-use Rattle.answers.specs.Answers.{Answer}
+use Rattle.answers.specs.declared.Refusal.{Refusal}
 use Rattle.answers.specs.declared.Refusal.TheVariants.{BadLayout, CountOutOfLimits, BadRotation}
 use Rattle.load.specs.declared.lines.Count.{Count}
 use Rattle.load.specs.declared.lines.Count.TheVariants as counts
@@ -19,7 +19,6 @@ use Rattle.load.specs.declared.around.Entry.{Entry}
 use Rattle.load.specs.declared.around.Entry.TheVariants.{Edge, Unfit, Absent}
 use Rattle.text.specs.Keys.{around_key}
 use Rattle.load.specs.Load.{Parsed, judged, ring_lines, edge_lines}
-use Rattle.load.specs.Load.Parsed.{refused}
 
 unfoldable pub no_nexts : List ℕ
 no_nexts = replicate 512 0
@@ -47,7 +46,7 @@ one_more v degrees = set degrees v (get_or degrees v 0 + 1)
 -- what load goes on to
 unfoldable pub after_edges : List ℕ → ℕ → ℕ → List ℕ → List ℕ → Step → Parsed
 after_edges text n m tails heads (Next at) = ring_lines n text (sheet_of n m tails heads no_nexts) 0 at
-after_edges text n m tails heads (Refused a) = refused a
+after_edges text n m tails heads (Refused a) = Err a
 
 pub record EdgesRead (text : List ℕ) (n m start : ℕ) (tails₀ heads₀ tails heads degrees : List ℕ) (r : Step) : Type 0 where
   pub rest : after_edges text n m tails heads r ≡ edge_lines m text (sheet_of n m tails₀ heads₀ no_nexts) 0 start
@@ -85,7 +84,7 @@ unfoldable pub is_listed : Listed → Bool
 is_listed (listed ws next) = true
 is_listed unlisted = false
 
-unfoldable pub refusal_of : Listed → Answer
+unfoldable pub refusal_of : Listed → Refusal
 refusal_of l = cond (is_listed l) BadRotation BadLayout
 
 -- each of the edges ws, marked in their order, may stand on v's line
@@ -105,7 +104,7 @@ linked tails v (w ∷ ws) nexts = linked_from tails v (dart_of tails w v) (dart_
 -- what a line comes to: the place after it and the next-darts then, or a refusal
 pub data Ringed : Type 0 where
   ringed : ℕ → List ℕ → Ringed
-  unringed : Answer → Ringed
+  unringed : Refusal → Ringed
 
 unfoldable pub ringed_by : List ℕ → Step → Ringed
 ringed_by nexts (Next at) = ringed at nexts
@@ -134,7 +133,7 @@ pub record RingRead (text : List ℕ) (at degree m : ℕ) (tails heads : List �
 
 unfoldable pub after_rings : ℕ → ℕ → List ℕ → List ℕ → List ℕ → Step → Parsed
 after_rings n m tails heads nexts (Next at) = judged (sheet_of n m tails heads nexts) at
-after_rings n m tails heads nexts (Refused a) = refused a
+after_rings n m tails heads nexts (Refused a) = Err a
 
 abbrev pub RingsRead : List ℕ → ℕ → ℕ → ℕ → List ℕ → List ℕ → List ℕ → List ℕ → Step → Type 0
 RingsRead text n m start tails heads nexts₀ nexts r = after_rings n m tails heads nexts r ≡ ring_lines n text (sheet_of n m tails heads nexts₀) 0 start

@@ -1,21 +1,20 @@
 -- Load: a sheet from the front of a text, line by line; on a line, shape first.
-use Rattle.std.specs.Prelude.{ℕ, zero, suc, ◌+◌, not, ◌&&◌, List, eqb, ltb, leb, set, replicate, Ok}
+use Rattle.std.specs.Prelude.{ℕ, zero, suc, ◌+◌, not, ◌&&◌, List, eqb, ltb, leb, set, replicate, Result, Ok, Err}
 use Rattle.counting.specs.Choice.{pick}
 use Rattle.text.specs.Reading.{Listed, line_at}
 use Rattle.text.specs.Shapes.{with_one, with_two, with_some}
 use Rattle.sheet.specs.declared.Sheet.{Sheet}
-use Rattle.answers.specs.Answers.{Answer}
+use Rattle.answers.specs.declared.Refusal.{Refusal}
 use Rattle.answers.specs.declared.Refusal.TheVariants.{BadLayout, CountOutOfLimits, BadEdge, BadRotation}
-use Rattle.answers.specs.Refusals.{is_accepted}
+use Rattle.answers.specs.Refusals.{answering}
 use Rattle.sheet.specs.Check.{judge}
 use Rattle.load.specs.declared.Loaded.{Loaded}
 use Rattle.text.specs.Keys.{bars_key, wires_key, wire_key, around_key}
 use Rattle.load.specs.Rings.{is_rotation, link_ring}
 
 -- a sheet and the bytes taken, or a refusal
-pub data Parsed : Type 0 where
-  parsed : Sheet → ℕ → Parsed
-  refused : Answer → Parsed
+abbrev pub Parsed : Type 0
+Parsed = Result Loaded Refusal
 
 -- n bars and m wires of which nothing is read yet; wire k read; next-ends read
 unfoldable pub empty_sheet : ℕ → ℕ → Sheet
@@ -29,28 +28,28 @@ with_nexts s nexts = record { vertices = s.vertices; edges = s.edges; tails = s.
 
 -- after the last line
 unfoldable pub judged : Sheet → ℕ → Parsed
-judged s next = pick (is_accepted (judge s)) (λ _. parsed s next) (λ _. refused (judge s))
+judged s next = answering (judge s) (λ _. record { sheet = s; taken = next })
 
 -- n lines `around=` with the bar's wires clockwise, at least one, beginning anywhere: r lines from bar v on, at a place
 unfoldable pub ring_lines : ℕ → List ℕ → Sheet → ℕ → ℕ → Parsed
 ring_lines zero text s v at = judged s at
-ring_lines (suc r) text s v at = with_some (line_at around_key text at) (refused BadLayout) (λ ws next.
+ring_lines (suc r) text s v at = with_some (line_at around_key text at) (Err BadLayout) (λ ws next.
     pick (is_rotation s v ws)
     (λ _. ring_lines r text (with_nexts s (link_ring s v ws s.nexts)) (v + 1) next)
-    (λ _. refused BadRotation))
+    (λ _. Err BadRotation))
 
 -- m lines `wire=tail,head`: r lines from wire k on, at a place; 3 a bar not in the sheet, or equal bars
 unfoldable pub edge_lines : ℕ → List ℕ → Sheet → ℕ → ℕ → Parsed
 edge_lines zero text s k at = ring_lines s.vertices text s 0 at
-edge_lines (suc r) text s k at = with_two (line_at wire_key text at) (refused BadLayout) (λ a b next.
+edge_lines (suc r) text s k at = with_two (line_at wire_key text at) (Err BadLayout) (λ a b next.
     pick (ltb a s.vertices && ltb b s.vertices && not (eqb a b))
     (λ _. edge_lines r text (with_edge s k a b) (k + 1) next)
-    (λ _. refused BadEdge))
+    (λ _. Err BadEdge))
 
 -- a line of one count; 2 outside its limits, which are 2 and `most`
 unfoldable pub with_count : Listed → ℕ → (ℕ → ℕ → Parsed) → Parsed
 with_count line most good =
-    with_one line (refused BadLayout) (λ n next. pick (leb 2 n && leb n most) (λ _. good n next) (λ _. refused CountOutOfLimits))
+    with_one line (Err BadLayout) (λ n next. pick (leb 2 n && leb n most) (λ _. good n next) (λ _. Err CountOutOfLimits))
 
 -- the lines `bars=n` and `wires=m`, and what follows them
 unfoldable pub parse : List ℕ → Parsed
@@ -59,10 +58,5 @@ parse text =
     with_count (line_at wires_key text next) 256 (λ m after.
     edge_lines m text (empty_sheet n m) 0 after))
 
--- Refused, the present sheet comes back, and 0 bytes are taken.
-unfoldable pub loaded : Sheet → Parsed → Loaded
-loaded present (parsed s taken) = record { answer = Ok tt; sheet = s; taken = taken }
-loaded present (refused a) = record { answer = a; sheet = present; taken = 0 }
-
-abbrev pub load : List ℕ → Sheet → Loaded
-load text present = loaded present (parse text)
+abbrev pub load : List ℕ → Result Loaded Refusal
+load text = parse text

@@ -4,7 +4,7 @@ ghost use Rattle.text.specs.Reading.{number_at, listed, closed};
 ghost use Rattle.load.specs.Inner.{Apart, Counted, fits_of, edge_of, marks_of, first_of, link_of, is_listed, refusal_of, rest_at, ringed_by, ring_end, RingRead, RingsRead};
 
 use crate::lines::Step;
-use answers::Answer;
+use answers::Refusal;
 use clauses::dart_at;
 use counting::{bit, wide};
 use text::Number;
@@ -97,13 +97,13 @@ fn rest_shaped(text: &[u8], at: usize) -> bool
 }
 
 // The refusal of a line with an edge that may not stand there, whose number ends at a place: shape comes first.
-fn unfit(text: &[u8], at: usize) -> Answer
+fn unfit(text: &[u8], at: usize) -> Refusal
     ensures { result ≡ refusal_of (closed text.now (rest_at text.now at)) }
 {
     if !rest_shaped(text, at) {
-        return Answer::BadLayout;
+        return Refusal::BadLayout;
     }
-    Answer::BadRotation
+    Refusal::BadRotation
 }
 
 // The end of a line of `count` edges of v, which has `degree` of them: the last dart is linked to the first.
@@ -121,10 +121,10 @@ fn ring_end(
 {
     let end = text::line_end(text, at);
     if end == 0 {
-        return Step::Refused(Answer::BadLayout);
+        return Step::Refused(Refusal::BadLayout);
     }
     if count != degree {
-        return Step::Refused(Answer::BadRotation);
+        return Step::Refused(Refusal::BadRotation);
     }
     nexts[last] = first as u16;
     Step::Next(at + end)
@@ -147,7 +147,7 @@ fn ring_line(
 {
     let key = b"around=";
     if !text::starts_with(text, start, key) {
-        return Step::Refused(Answer::BadLayout);
+        return Step::Refused(Refusal::BadLayout);
     }
     let mut at = start + key.len();
     let mut count = 0;
@@ -156,7 +156,7 @@ fn ring_line(
     loop {
         let read = edge_at(text, at, v, m, tails, heads, seen);
         match read {
-            Entry::Absent => return Step::Refused(Answer::BadLayout),
+            Entry::Absent => return Step::Refused(Refusal::BadLayout),
             Entry::Unfit(next) => return Step::Refused(unfit(text, next)),
             Entry::Edge(dart, next) => {
                 let head = link(count, first, last, dart, nexts);
@@ -193,7 +193,7 @@ pub fn ring_lines(
         let degree = wide(degrees[v]);
         let step = ring_line(text, at, degree, v, m, tails, heads, &mut seen, nexts);
         match step {
-            Step::Refused(answer) => return Step::Refused(answer),
+            Step::Refused(refusal) => return Step::Refused(refusal),
             Step::Next(next) => at = next,
         }
         v += 1;

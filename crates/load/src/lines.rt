@@ -3,7 +3,7 @@ ghost use Rattle.std.specs.Prelude.{◌≡◌, ◌&&◌, ◌≤◌, ◌<◌, len
 ghost use Rattle.text.specs.Reading.{line_at};
 ghost use Rattle.load.specs.Inner.{count_of, one_more, Counted, EdgesRead};
 
-use answers::Answer;
+use answers::Refusal;
 use counting::wide;
 use text::Pair;
 
@@ -11,14 +11,14 @@ use text::Pair;
 #[derive(Clone, Copy)]
 pub enum Count {
     Value(usize, usize),
-    Refused(Answer),
+    Refused(Refusal),
 }
 
 // The place after the lines that were read, or a refusal.
 #[derive(Clone, Copy)]
 pub enum Step {
     Next(usize),
-    Refused(Answer),
+    Refused(Refusal),
 }
 
 fn within(n: usize, most: usize) -> bool
@@ -33,12 +33,12 @@ pub fn count_line(text: &[u8], at: usize, key: &[u8], most: usize) -> Count
 {
     let read = text::line(text, at, key);
     if read.count != 1 {
-        return Count::Refused(Answer::BadLayout);
+        return Count::Refused(Refusal::BadLayout);
     }
     let values = read.values;
     let n = wide(values[0]);
     if !within(n, most) {
-        return Count::Refused(Answer::CountOutOfLimits);
+        return Count::Refused(Refusal::CountOutOfLimits);
     }
     Count::Value(n, read.next)
 }
@@ -70,10 +70,10 @@ pub fn edge_lines(
     while k < m {
         let read = text::pair_line(text, at, b"wire=");
         match read {
-            Pair::Other => return Step::Refused(Answer::BadLayout),
+            Pair::Other => return Step::Refused(Refusal::BadLayout),
             Pair::Two(a, b, next) => {
                 if !clauses::joins(n, a, b) {
-                    return Step::Refused(Answer::BadEdge);
+                    return Step::Refused(Refusal::BadEdge);
                 }
                 tails[k] = a;
                 heads[k] = b;

@@ -2,7 +2,7 @@ use Rattle.std.proofs.Common.{rules}
 use lib.ListN.{replicate}
 use mathlib.Core.Path.{ap, ◌∙◌}
 use Rattle.sheet.specs.declared.Sheet.{Sheet}
-use Rattle.load.specs.Load.{edge_lines, loaded}
+use Rattle.load.specs.Load.{edge_lines}
 use Rattle.load.proofs.Ends.{counted_none}
 use Rattle.load.proofs.Turns.{zeros_at, after_edges_refused, after_edges_next, no_edges}
 use Rattle.load.proofs.load_edges.Goals as goal
@@ -18,9 +18,9 @@ load_rings-requires c =
 pub returns-in-Refused : goal.returns-in-Refused
 returns-in-Refused c =
     let a = c.args in
-    c.refuse.ensures ∙ ap (loaded _) (after_edges_refused _ _ _ _ _ _ _ c.edge_lines-step.ensures.rest _ c.in-Refused.is ∙ ap (λ (s : Sheet). edge_lines a.m a.text.now s 0 a.at) (no_edges a.n a.m))
+    (after_edges_refused _ _ _ _ _ _ _ c.edge_lines-step.ensures.rest _ c.in-Refused.is ∙ ap (λ (s : Sheet). edge_lines a.m a.text.now s 0 a.at) (no_edges a.n a.m))
 
 pub returns-in-Next : goal.returns-in-Next
 returns-in-Next c =
     let a = c.args in
-    c.load_rings.ensures ∙ ap (loaded _) (after_edges_next _ _ _ _ _ _ _ c.edge_lines-step.ensures.rest _ c.in-Next.is ∙ ap (λ (s : Sheet). edge_lines a.m a.text.now s 0 a.at) (no_edges a.n a.m))
+    c.load_rings.ensures ∙ (after_edges_next _ _ _ _ _ _ _ c.edge_lines-step.ensures.rest _ c.in-Next.is ∙ ap (λ (s : Sheet). edge_lines a.m a.text.now s 0 a.at) (no_edges a.n a.m))

@@ -1,13 +1,14 @@
-use mathlib.Core.Path.{sym, ap, ◌∙◌}
-use Rattle.load.specs.Load.{loaded}
-use Rattle.load.proofs.Turns.{judged_refused, judged_accepted}
+use Rattle.std.proofs.Common.{◌≡◌, sym, ◌∙◌, rules, Err, refl}
+use Rattle.answers.proofs.Refusals.{answering_refused, answering_accepted}
+use Rattle.load.specs.Load.{judged}
 use Rattle.load.proofs.load_judged.Goals as goal
 
-pub returns-then-not-is_accepted : goal.returns-then-not-is_accepted
-returns-then-not-is_accepted c =
-    c.refuse.ensures
-    ∙ ap (loaded _) (judged_refused _ _ _ c.judge-answer.ensures (sym c.is_accepted.ensures ∙ c.if-not-is_accepted.true))
+pub returns-in_err-judge : goal.returns-in_err-judge
+unfolding judged
+returns-in_err-judge c =
+    let e : c.from_residual.result ≡ Err c.in_err-judge.field-0.0 = search rules in
+    e ∙ answering_refused _ (λ _. record { sheet = c.args.sheet; taken = c.args.taken }) _ (sym c.judge.ensures ∙ c.in_err-judge.was)
 
 pub returns : goal.returns
-returns c =
-    judged_accepted _ _ _ c.judge-answer.ensures (sym c.is_accepted.ensures ∙ c.if-not-is_accepted.false) _
+unfolding judged
+returns c = answering_accepted _ (λ _. record { sheet = c.args.sheet; taken = c.args.taken }) (sym c.judge.ensures ∙ c.in_ok-judge.was) _ refl
