@@ -45,6 +45,6 @@ refusal_number InputTooLong = 18
 abbrev pub Answer : Type 0
 Answer = Result (Unit {0}) Refusal
 
-unfoldable pub answer_number : Answer → ℕ
+unfoldable pub answer_number : {A : Type 0} → Result A Refusal → ℕ
 answer_number (Ok _) = 0
 answer_number (Err r) = refusal_number r

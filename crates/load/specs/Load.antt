@@ -16,6 +16,9 @@ use Rattle.load.specs.Rings.{is_rotation, link_ring}
 abbrev pub Parsed : Type 0
 Parsed = Result Loaded Refusal
 
+abbrev pub parsed : Sheet → ℕ → Parsed
+parsed s next = Ok (record { sheet = s; taken = next })
+
 -- n bars and m wires of which nothing is read yet; wire k read; next-ends read
 unfoldable pub empty_sheet : ℕ → ℕ → Sheet
 empty_sheet n m = record { vertices = n; edges = m; tails = replicate 256 0; heads = replicate 256 0; nexts = replicate 512 0 }
@@ -60,3 +63,8 @@ parse text =
 
 abbrev pub load : List ℕ → Result Loaded Refusal
 load text = parse text
+
+-- what load returns beside its answer: refused, the present sheet comes back, and 0 bytes are taken
+unfoldable pub returned : Sheet → Parsed → Loaded
+returned present (Ok l) = l
+returned present (Err r) = record { sheet = present; taken = 0 }

@@ -1,8 +1,8 @@
 // Sheets as text: load.
 #![tactic(auto)]
 
-ghost use Rattle.std.specs.Prelude.{◌≡◌, ◌≤◌, Err};
-ghost use Rattle.load.specs.Load.{empty_sheet, judged, ring_lines, edge_lines, load};
+ghost use Rattle.std.specs.Prelude.{◌≡◌, ◌≤◌};
+ghost use Rattle.load.specs.Load.{empty_sheet, judged, ring_lines, edge_lines, load, returned};
 ghost use Rattle.sheet.specs.Darts.{sheet_of};
 ghost use Rattle.load.specs.Inner.{no_nexts, Apart, Counted};
 
@@ -89,5 +89,19 @@ pub fn load(text: &[u8]) -> Result<Loaded, Refusal>
                 Count::Value(m, after) => load_edges(text, after, n, m),
             }
         }
+    }
+}
+
+// What load returns beside its answer: refused, the present sheet comes back, and 0 bytes are taken.
+#[tactic(auto, unfolding(crate::specs::Load::returned))]
+pub fn returned(answer: Result<Loaded, Refusal>, present: Sheet) -> Loaded
+    ensures { result ≡ returned present answer }
+{
+    match answer {
+        Ok(loaded) => loaded,
+        Err(_) => Loaded {
+            sheet: present,
+            taken: 0,
+        },
     }
 }

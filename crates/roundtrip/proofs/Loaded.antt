@@ -1,5 +1,5 @@
 -- What load accepts is sound. Assumes nothing.
-use Rattle.std.specs.Prelude.{Ok}
+use Rattle.std.specs.Prelude.{Ok, Err}
 use mathlib.Core.Path.{◌≡◌, refl, sym, ◌∙◌, ap, subst}
 use mathlib.Core.Logic.{◌≢◌, by_cases}
 use mathlib.Core.Bool.{Bool, true, false, not, ◌&&◌, false≢true}
@@ -15,9 +15,8 @@ use Rattle.counting.specs.Choice.{pick}
 use Rattle.text.specs.Reading.{line_at}
 use Rattle.layout.proofs.Shapes.{line_reads, one_shaped, two_shaped, some_shaped}
 use Rattle.sheet.specs.declared.Sheet.{Sheet}
-use Rattle.answers.specs.Answers.{refusal_number}
-use Rattle.answers.specs.Refusals.{is_accepted}
-use Rattle.answers.proofs.Refusals.{accepted_is}
+use Rattle.answers.specs.Answers.{Answer}
+use Rattle.answers.specs.Refusals.{answering}
 use Rattle.sheet.specs.Darts.{Sized, tail, head, darts, next}
 use Rattle.sheet.specs.Sound.{Limits, Joins, Sound}
 use Rattle.sheet.specs.Check.{judge}
@@ -29,8 +28,8 @@ use Rattle.soundness.proofs.Judge.{judge_law}
 use Rattle.soundness.proofs.Law.{sound_law}
 use Rattle.load.specs.Rings.{is_rotation, link_ring}
 use Rattle.text.specs.Keys.{bars_key, wires_key, wire_key, around_key}
-use Rattle.load.specs.Load.{Parsed, empty_sheet, with_edge, with_nexts, judged, ring_lines, edge_lines, with_count, parse, loaded}
-use Rattle.load.specs.Load.Parsed.{parsed, refused}
+use Rattle.load.specs.Load.{Parsed, empty_sheet, with_edge, with_nexts, judged, ring_lines, edge_lines, with_count, parse, load}
+use Rattle.load.specs.declared.Loaded.{Loaded}
 use Rattle.roundtrip.specs.Laws.{LoadedSound}
 use Rattle.roundtrip.proofs.Entries.{zeros_length, zeros_each}
 use Rattle.roundtrip.proofs.Around.{Around, around_law}
@@ -43,10 +42,10 @@ pub pick_each : {A : Type 0} (P : A → Type 0) (b : Bool) (x y : Unit {0} → A
 pick_each P true x y f g = f refl
 pick_each P false x y f g = g refl
 
--- what is parsed is a sound sheet, and a refusal does not accept
+-- what is parsed is a sound sheet
 abbrev Good : Parsed → Type 0
-Good (parsed s next) = Sized s × Sound s
-Good (refused a) = is_accepted a ≡ false
+Good (Ok l) = Sized l.sheet × Sound l.sheet
+Good (Err r) = Unit {0}
 
 -- ---- the wires
 
@@ -94,8 +93,12 @@ edge_read s k a b E h l m n = record {
 
 -- after the last line
 judged_good : (s : Sheet) (at : ℕ) → Sized s → Lined s → Good (judged s at)
-unfolding judged
-judged_good s at z l = pick_each Good (is_accepted (judge s)) _ _ (λ t. (z, (sound_law s z).0 ((judge_law s l).0 (accepted_is (judge s) t)))) (λ t. t)
+unfolding judged answering
+judged_good s at z l = go (judge s) refl
+  where
+    go : (a : Answer) → judge s ≡ a → Good (answering a (λ _. record { sheet = s; taken = at }))
+    go (Ok u) e = (z, (sound_law s z).0 ((judge_law s l).0 e))
+    go (Err r) e = tt
 
 -- the rings of the first bars are read, one after the other
 pub record Ringed (s : Sheet) (rings : List (List ℕ)) (nexts : List ℕ) : Type 0 where
@@ -141,14 +144,14 @@ module _ (s : Sheet) (E : Edged s s.edges) where
     }
 
   rings_good : (text : List ℕ) (r : ℕ) (rings : List (List ℕ)) (nexts : List ℕ) (v at : ℕ) → length rings ≡ v → v + r ≡ s.vertices → Ringed s rings nexts → Good (ring_lines r text (with_nexts s nexts) v at)
-  unfolding ring_lines with_nexts is_rotation touches_of is_accepted refusal_number
+  unfolding ring_lines with_nexts is_rotation touches_of
   rings_good text zero rings nexts v at z e R =
       let full : length rings ≡ s.vertices = omega arith in
       judged_good (with_nexts s nexts) at (whole_sized rings nexts full R) (whole_lined rings nexts full R)
-  rings_good text (suc r) rings nexts v at z e R = some_shaped (line_reads around_key text at) Good _ _ (λ _. refl) (λ ws next _.
+  rings_good text (suc r) rings nexts v at z e R = some_shaped (line_reads around_key text at) Good _ _ (λ _. tt) (λ ws next _.
       pick_each Good (is_rotation s v ws) _ _
       (λ t. rw (link_anew s v (get_or ws 0 0) nexts ws nexts) (rings_good text r (rings ++ ws ∷ []) (link_ring s v ws nexts) (v + 1) next (omega (arith, length-append rings (ws ∷ []))) (omega arith) (ring_read rings v ws nexts z R ((around_law s v ws).0 t))))
-      (λ _. refl))
+      (λ _. tt))
 
 -- no ring is read yet
 pub none_ringed : (s : Sheet) (k : ℕ) → Edged s k → Ringed s [] s.nexts
@@ -157,14 +160,14 @@ none_ringed s k E = record { sized = E.sized.nexts; laid = λ u h. absurd (omega
 -- ---- the whole text
 
 edges_good : (text : List ℕ) (r : ℕ) (s : Sheet) (k at : ℕ) → k + r ≡ s.edges → Edged s k → Good (edge_lines r text s k at)
-unfolding edge_lines with_edge with_nexts is_accepted refusal_number
+unfolding edge_lines with_edge with_nexts
 edges_good text zero s k at e E =
     let whole : Edged s s.edges = subst (Edged s) (omega arith) E in
     rings_good s whole text s.vertices [] s.nexts 0 at refl (omega arith) (none_ringed s k E)
-edges_good text (suc r) s k at e E = two_shaped (line_reads wire_key text at) Good _ _ (λ _. refl) (λ a b next _.
+edges_good text (suc r) s k at e E = two_shaped (line_reads wire_key text at) Good _ _ (λ _. tt) (λ a b next _.
     pick_each Good _ _ _
     (λ t. let ((l, m), n) = (edge_says s a b).0 t in edges_good text r (with_edge s k a b) (k + 1) next (omega arith) (edge_read s k a b E (omega arith) l m n))
-    (λ _. refl))
+    (λ _. tt))
 
 pub empty_read : (n m : ℕ) → 2 ≤ n → n ≤ 128 → 2 ≤ m → m ≤ 256 → Edged (empty_sheet n m) 0
 unfolding empty_sheet
@@ -178,9 +181,9 @@ empty_read n m a b c d = record {
 }
 
 count_good : (key text : List ℕ) (at most : ℕ) (good : ℕ → ℕ → Parsed) → ((n next : ℕ) → 2 ≤ n → n ≤ most → Good (good n next)) → Good (with_count (line_at key text at) most good)
-unfolding with_count is_accepted refusal_number
-count_good key text at most good f = one_shaped (line_reads key text at) Good _ _ (λ _. refl) (λ n next _.
-    pick_each Good (leb 2 n && leb n most) _ _ (λ t. let (l, m) = (and_says (le_says 2 n) (le_says n most)).0 t in f n next l m) (λ _. refl))
+unfolding with_count
+count_good key text at most good f = one_shaped (line_reads key text at) Good _ _ (λ _. tt) (λ n next _.
+    pick_each Good (leb 2 n && leb n most) _ _ (λ t. let (l, m) = (and_says (le_says 2 n) (le_says n most)).0 t in f n next l m) (λ _. tt))
 
 parse_good : (text : List ℕ) → Good (parse text)
 unfolding parse empty_sheet
@@ -189,9 +192,8 @@ parse_good text = count_good bars_key text 0 128 _ (λ n next a b.
     edges_good text m (empty_sheet n m) 0 after (omega arith) (empty_read n m a b c d)))
 
 pub loaded_sound : LoadedSound
-unfolding loaded is_accepted refusal_number
-loaded_sound text present = go (parse text) (parse_good text)
+loaded_sound text l e = go (load text) (parse_good text) e
   where
-    go : (p : Parsed) → Good p → (loaded present p).answer ≡ Ok tt → Sized (loaded present p).sheet × Sound (loaded present p).sheet
-    go (parsed s next) g e = g
-    go (refused a) g e = absurd (false≢true (sym g ∙ ap is_accepted e))
+    go : (p : Parsed) → Good p → p ≡ Ok l → Sized l.sheet × Sound l.sheet
+    go (Ok m) g e = subst Good e g
+    go (Err r) g e = cc e

@@ -21,7 +21,7 @@ use Rattle.layout.specs.Mixed.{MixedEnds}
 use Rattle.layout.proofs.Mixed.{mixed_same, mixed_parts, endless, mixed_read}
 use Rattle.sheet.specs.declared.Sheet.{Sheet}
 use Rattle.answers.specs.Answers.{refusal_number}
-use Rattle.answers.specs.Refusals.{is_accepted}
+use Rattle.answers.specs.Refusals.{answering}
 use Rattle.sheet.specs.Darts.{Sized, tail, head, darts, vertex, next}
 use Rattle.sheet.specs.Sound.{Joins, Sound}
 use Rattle.soundness.proofs.Rings.{vertex_below}
@@ -30,8 +30,7 @@ use Rattle.soundness.proofs.Law.{sound_law}
 use Rattle.text.specs.Keys.{bars_key, wires_key, wire_key, around_key}
 use Rattle.load.specs.Rings.{is_rotation, link_ring}
 use Rattle.writesheet.specs.Rings.{rotation}
-use Rattle.load.specs.Load.{Parsed, empty_sheet, with_edge, with_nexts, judged, ring_lines, edge_lines, with_count, parse, loaded, load}
-use Rattle.load.specs.Load.Parsed.{parsed}
+use Rattle.load.specs.Load.{Parsed, empty_sheet, with_edge, with_nexts, judged, ring_lines, edge_lines, with_count, parse, parsed, load}
 use Rattle.writesheet.specs.Write.{sheet_lines, sheet_text}
 use Rattle.roundtrip.specs.Laws.{RoundTripLaw, MixedRoundTrip}
 use Rattle.roundtrip.proofs.Entries.{zeros, zeros_length, zeros_each, Filled, filled_none, filled_more, filled_all}
@@ -73,7 +72,7 @@ count_step l n after most good e h k = rw (e, le-leb 2 n h, le-leb n most k)
 -- a sound sheet, and for each bar its wires clockwise, begun anywhere
 module _ (s : Sheet) (z : Sized s) (S : Sound s) (ring : ℕ → List ℕ) (rotates : (v : ℕ) → v < s.vertices → Rotated s v (ring v)) where
   judged_back : (at : ℕ) → judged s at ≡ parsed s at
-  unfolding judged is_accepted refusal_number
+  unfolding judged answering
   judged_back at =
       let t = (sound_law s z).1 S in
       rw ((judge_law s ((passed_says s).0 t).lined).1 t)
@@ -174,13 +173,12 @@ module _ (s : Sheet) (z : Sized s) (S : Sound s) (ring : ℕ → List ℕ) (rota
       rings : List ℕ
       rings = join_below (ring_text ring) s.vertices
 
-  pub lines_back : (text : List ℕ) → MixedEnds (sheet_lines s ring) text → (rest : List ℕ) (present : Sheet) → load (text ++ rest) present ≡ record { answer = Ok tt; sheet = s; taken = length text }
-  unfolding loaded
-  lines_back text m rest present = ap (loaded present) (parse_back (text ++ rest) text m (stands_front text rest))
+  pub lines_back : (text : List ℕ) → MixedEnds (sheet_lines s ring) text → (rest : List ℕ) → load (text ++ rest) ≡ parsed s (length text)
+  lines_back text m rest = parse_back (text ++ rest) text m (stands_front text rest)
 
 pub mixed_round_trip : MixedRoundTrip
 unfolding sheet_text
-mixed_round_trip s z S text m rest present = lines_back s z S (rotation s) (rotated s S) text m rest present
+mixed_round_trip s z S text m rest = lines_back s z S (rotation s) (rotated s S) text m rest
 
 pub round_trip : RoundTripLaw
-round_trip s z S rest present = mixed_round_trip s z S (sheet_text s) (mixed_same (sheet_text s)) rest present
+round_trip s z S rest = mixed_round_trip s z S (sheet_text s) (mixed_same (sheet_text s)) rest

@@ -1,5 +1,5 @@
 -- What a writer answers, and what it leaves in the buffer. Assumes nothing.
-use Rattle.std.specs.Prelude.{Ok}
+use Rattle.std.specs.Prelude.{Result, Ok, Err}
 use Prim.Native.Nat.{ℕ, ◌≤◌, ◌<◌}
 use mathlib.Core.Path.{◌≡◌, refl, ap, ◌∙◌}
 use mathlib.Core.Bool.{true, false}
@@ -10,28 +10,27 @@ use lib.Seq.{sets, sets-eq}
 use borrow.Author.Tests.{lt-ltb, le-ltb}
 use Rattle.sheet.specs.declared.Sheet.{Sheet}
 use Rattle.answers.specs.declared.Refusal.TheVariants.{NotSound, BufferTooShort}
-use Rattle.answers.specs.Answers.{refusal_number}
-use Rattle.answers.specs.Refusals.{first, is_accepted}
+use Rattle.answers.specs.Refusals.{first, answering}
 use Rattle.sheet.specs.Check.{sound}
-use Rattle.writesheet.specs.declared.Written.{Written}
+use Rattle.answers.specs.declared.Refusal.{Refusal}
 use Rattle.writesheet.specs.Write.{write_answer, written, buffer_after}
 
 -- the answer w to a call that left `out` of the buffer
-abbrev pub Outcome : Sheet → List ℕ → List ℕ → Written → List ℕ → Type 0
+abbrev pub Outcome : Sheet → List ℕ → List ℕ → Result ℕ Refusal → List ℕ → Type 0
 Outcome s text buffer w out = (w ≡ written (write_answer s text buffer) text) × (out ≡ buffer_after (write_answer s text buffer) text buffer)
 
 module _ (s : Sheet) (text buffer : List ℕ) where
-  pub not_sound : sound s ≡ false → Outcome s text buffer (record { answer = NotSound; count = 0 }) buffer
-  unfolding write_answer written buffer_after first is_accepted refusal_number
+  pub not_sound : sound s ≡ false → Outcome s text buffer (Err NotSound) buffer
+  unfolding write_answer buffer_after first answering
   not_sound e = rw e (refl, refl)
 
-  pub too_short : sound s ≡ true → length buffer < length text → Outcome s text buffer (record { answer = BufferTooShort; count = 0 }) buffer
-  unfolding write_answer written buffer_after first is_accepted refusal_number
+  pub too_short : sound s ≡ true → length buffer < length text → Outcome s text buffer (Err BufferTooShort) buffer
+  unfolding write_answer buffer_after first answering
   too_short e h = rw (e, lt-ltb (length buffer) (length text) h) (refl, refl)
 
   pub text_put : sound s ≡ true → length text ≤ length buffer → (count : ℕ) → count ≡ length text → (out : List ℕ) → out ≡ sets buffer 0 text
-      → Outcome s text buffer (record { answer = Ok tt; count = count }) out
-  unfolding write_answer written buffer_after first is_accepted refusal_number
+      → Outcome s text buffer (Ok count) out
+  unfolding write_answer buffer_after first answering
   text_put e h count n out q =
       rw (e, le-ltb (length buffer) (length text) h)
-      (ap (λ k. record { answer = Ok tt; count = k }) n, q ∙ sets-eq text buffer 0 (rw zero-add h) ∙ rw zero-add refl)
+      (ap Ok n, q ∙ sets-eq text buffer 0 (rw zero-add h) ∙ rw zero-add refl)

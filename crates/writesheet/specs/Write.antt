@@ -1,15 +1,14 @@
 -- Write sheet: load's layout, each ring from its lowest wire number.
-use Rattle.std.specs.Prelude.{ℕ, not, List, [], ◌∷◌, ◌++◌, ltb, length, drop}
+use Rattle.std.specs.Prelude.{ℕ, not, List, [], ◌∷◌, ◌++◌, ltb, length, drop, Result, Ok, Err}
 use Rattle.counting.specs.Below.{join_below}
-use Rattle.counting.specs.Choice.{pick}
 use Rattle.text.specs.Written.{line}
 use Rattle.sheet.specs.declared.Sheet.{Sheet}
 use Rattle.answers.specs.Answers.{Answer}
+use Rattle.answers.specs.declared.Refusal.{Refusal}
 use Rattle.answers.specs.declared.Refusal.TheVariants.{NotSound, BufferTooShort}
-use Rattle.answers.specs.Refusals.{first, ◌if◌, is_accepted}
+use Rattle.answers.specs.Refusals.{first, ◌if◌, answering}
 use Rattle.sheet.specs.Darts.{tail, head}
 use Rattle.sheet.specs.Check.{sound}
-use Rattle.writesheet.specs.declared.Written.{Written}
 use Rattle.text.specs.Keys.{bars_key, wires_key, wire_key, around_key}
 use Rattle.writesheet.specs.Rings.{rotation}
 
@@ -28,15 +27,16 @@ sheet_text s = sheet_lines s (rotation s)
 unfoldable pub write_answer : Sheet → List ℕ → List ℕ → Answer
 write_answer s text buffer = first (NotSound if not (sound s) ∷ BufferTooShort if ltb (length buffer) (length text) ∷ [])
 
--- Refused, the count is 0; otherwise it is the text's length.
-unfoldable pub written : Answer → List ℕ → Written
-written a text = pick (is_accepted a) (λ _. record { answer = a; count = length text }) (λ _. record { answer = a; count = 0 })
+-- how many bytes of the buffer are filled: the text's length, or a refusal
+abbrev pub written : Answer → List ℕ → Result ℕ Refusal
+written a text = answering a (λ _. length text)
 
 -- Refused, the buffer is untouched; otherwise the text fills its front, the rest is untouched.
 unfoldable pub buffer_after : Answer → List ℕ → List ℕ → List ℕ
-buffer_after a text buffer = pick (is_accepted a) (λ _. text ++ drop (length text) buffer) (λ _. buffer)
+buffer_after (Ok _) text buffer = text ++ drop (length text) buffer
+buffer_after (Err _) text buffer = buffer
 
-abbrev pub write_sheet : Sheet → List ℕ → Written
+abbrev pub write_sheet : Sheet → List ℕ → Result ℕ Refusal
 write_sheet s buffer = written (write_answer s (sheet_text s) buffer) (sheet_text s)
 
 abbrev pub buffer_after_sheet : Sheet → List ℕ → List ℕ

@@ -10,16 +10,9 @@ ghost use Rattle.writesheet.specs.Rings.{ring_from};
 ghost use Rattle.writesheet.specs.Inner.{edge_text, ring_text, ring_line, Firsts};
 ghost use Rattle.writesheet.specs.Write.{sheet_text, write_sheet, buffer_after_sheet};
 
-use answers::Answer;
+use answers::Refusal;
 use counting::wide;
 use sheet::Sheet;
-
-// What a writer answers: how many bytes of the lent buffer it filled.
-#[derive(Clone, Copy)]
-pub struct Written {
-    pub answer: Answer,
-    pub count: usize,
-}
 
 // The dart of each vertex's lowest edge.
 #[tactic(auto, using(crate::proofs::Firsts::ends_small))]
@@ -182,25 +175,15 @@ fn put_sheet(out: &mut [u8], s: Sheet, firsts: &[u16; 128]) -> usize
 }
 
 // Writes a sheet's text to the front of the buffer. Refused, 9 and then 17, the buffer is untouched.
-pub fn write_sheet(s: Sheet, out: &mut [u8]) -> Written
+pub fn write_sheet(s: Sheet, out: &mut [u8]) -> Result<usize, Refusal>
     ensures { (result ≡ write_sheet s out.old) × (out.new ≡ buffer_after_sheet s out.old) }
 {
     if !sheet::is_sound(s) {
-        return Written {
-            answer: Answer::NotSound,
-            count: 0,
-        };
+        return Err(Refusal::NotSound);
     }
     let firsts = first_darts(s);
     if !fits(out.len(), s, &firsts) {
-        return Written {
-            answer: Answer::BufferTooShort,
-            count: 0,
-        };
+        return Err(Refusal::BufferTooShort);
     }
-    let count = put_sheet(out, s, &firsts);
-    Written {
-        answer: Answer::Accepted,
-        count,
-    }
+    Ok(put_sheet(out, s, &firsts))
 }

@@ -29,10 +29,10 @@ pub returns-then-not-fits : goal.returns-then-not-fits
 returns-then-not-fits c =
     too_short _ _ _ (sym c.is_sound.ensures ∙ c.if-not-is_sound.false) (leb-false _ _ (sym c.fits.ensures ∙ c.if-not-fits.true))
 
-pub put_sheet-count-requires : goal.put_sheet-count-requires
-put_sheet-count-requires c =
+pub put_sheet-requires : goal.put_sheet-requires
+put_sheet-requires c =
     (found_sound (search rules) c.is_sound.ensures c.if-not-is_sound.false, c.first_darts-firsts.ensures, leb-true _ _ (sym c.fits.ensures ∙ c.if-not-fits.false))
 
 pub returns : goal.returns
 returns c =
-    text_put _ _ _ (sym c.is_sound.ensures ∙ c.if-not-is_sound.false) (leb-true _ _ (sym c.fits.ensures ∙ c.if-not-fits.false)) _ c.put_sheet-count.ensures.0 _ c.put_sheet-count.ensures.1
+    text_put _ _ _ (sym c.is_sound.ensures ∙ c.if-not-is_sound.false) (leb-true _ _ (sym c.fits.ensures ∙ c.if-not-fits.false)) _ c.put_sheet.ensures.0 _ c.put_sheet.ensures.1
