@@ -1,4 +1,5 @@
 -- Load answers as laid down. Assumes nothing.
+use Rattle.std.specs.Prelude.{Ok, Err}
 use mathlib.Core.Path.{◌≡◌, refl, sym, ◌∙◌, subst}
 use mathlib.Core.Logic.{inl, inr, by_cases}
 use mathlib.Core.Bool.{true, false, not, ◌&&◌, false≢true}
@@ -13,10 +14,10 @@ use Rattle.clauses.specs.Darts.{touches_of}
 use Rattle.text.specs.Reading.{line_at}
 use Rattle.text.specs.Keys.{bars_key, wires_key, wire_key, around_key}
 use Rattle.answers.specs.declared.Refusal.TheVariants.{BadRoot, Cyclic, BadPoles, NotPlanar}
-use Rattle.answers.specs.Answers.{refusal_number}
-use Rattle.answers.specs.Refusals.{◌if◌, is_accepted}
+use Rattle.answers.specs.Answers.{Answer, refusal_number, answer_number}
+use Rattle.answers.specs.Refusals.{◌if◌, answering}
 use Rattle.answers.specs.Clauses.{First}
-use Rattle.answers.proofs.Refusals.{accepted_is}
+use Rattle.answers.proofs.Refusals.{refusal_nonzero}
 use Rattle.answers.proofs.Clauses.{Agree, first_number}
 use Rattle.answers.proofs.Clauses.Agree.{none, then}
 use Rattle.sheet.specs.declared.Sheet.{Sheet}
@@ -28,7 +29,7 @@ use Rattle.soundness.proofs.Rings.{rings_rotation, rings_law}
 use Rattle.soundness.proofs.Faces.{planar_law}
 use Rattle.soundness.proofs.Law.{circle_law}
 use Rattle.load.specs.Rings.{is_rotation, link_ring}
-use Rattle.load.specs.Load.{Parsed, empty_sheet, with_edge, with_nexts, judged, ring_lines, edge_lines, with_count, parse, loaded}
+use Rattle.load.specs.Load.{Parsed, empty_sheet, with_edge, with_nexts, judged, ring_lines, edge_lines, with_count, parse, returned}
 use Rattle.roundtrip.proofs.Around.{around_law}
 use Rattle.roundtrip.proofs.Linking.{link_anew}
 use Rattle.roundtrip.proofs.Loaded.{pick_each, Edged, edge_says, edge_read, empty_read, Ringed, ring_read, none_ringed, whole_sized, whole_lined}
@@ -56,7 +57,7 @@ judging s x =
     then refl (not_says (poles_law s l.vertices_least)) (λ _.
     then refl (not_says (planar_law s l.edges_most r)) (λ _. none))))
 
-pub judged_first : (s : Sheet) → Lined s → First (after_last s) (refusal_number (judge s))
+pub judged_first : (s : Sheet) → Lined s → First (after_last s) (answer_number (judge s))
 unfolding judge
 judged_first s x = first_number (judging s x)
 
@@ -78,20 +79,25 @@ module _ (s : Sheet) (E : Edged s s.edges) (tails heads : List ℕ) (S : Said s 
 
 -- what load hands back
 unfoldable pub result : Sheet → Parsed → Result
-result present p = record { number = refusal_number (loaded present p).answer; sheet = (loaded present p).sheet; taken = (loaded present p).taken }
+result present p = record { number = answer_number p; sheet = (returned present p).sheet; taken = (returned present p).taken }
 
 module _ (text : List ℕ) (present : Sheet) where
   last_answered : (n : ℕ) (tails heads : List ℕ) (rings : List (List ℕ)) (s : Sheet) (at : ℕ) → length rings ≡ n → Describes n tails heads rings s → Lined s
       → AroundLines text present (result present (judged s at)) n tails heads rings at
-  unfolding result judged loaded is_accepted refusal_number
-  last_answered n tails heads rings s at z D x = pick_each (λ p. AroundLines text present (result present p) n tails heads rings at) (is_accepted (judge s)) _ _
-      (λ t. accepted_last z D (subst (λ a. First (after_last s) (refusal_number a)) (accepted_is (judge s) t) (judged_first s x)) refl)
-      (λ t. refused_last z D (judged_first s x) (eqb-false (refusal_number (judge s)) 0 t) refl)
+  unfolding result judged returned answering answer_number
+  last_answered n tails heads rings s at z D x = go (judge s) refl
+    where
+      first : (a : Answer) → judge s ≡ a → First (after_last s) (answer_number a)
+      first a e = subst (λ b. First (after_last s) (answer_number b)) e (judged_first s x)
+
+      go : (a : Answer) → judge s ≡ a → AroundLines text present (result present (answering a (λ _. record { sheet = s; taken = at }))) n tails heads rings at
+      go (Ok u) e = accepted_last z D (first (Ok u) e) refl
+      go (Err r) e = refused_last z D (first (Err r) e) (refusal_nonzero r) refl
 
   module _ (s : Sheet) (E : Edged s s.edges) (tails heads : List ℕ) (S : Said s s.edges tails heads) where
     rings_answered : (r : ℕ) (rings : List (List ℕ)) (nexts : List ℕ) (v at : ℕ) → length rings ≡ v → v + r ≡ s.vertices → Ringed s rings nexts
         → AroundLines text present (result present (ring_lines r text (with_nexts s nexts) v at)) s.vertices tails heads rings at
-    unfolding ring_lines with_nexts is_rotation touches_of result loaded refusal_number
+    unfolding ring_lines with_nexts is_rotation touches_of result returned answer_number refusal_number
     rings_answered zero rings nexts v at z e R =
         let full : length rings ≡ s.vertices = omega arith in
         last_answered s.vertices tails heads rings (with_nexts s nexts) at full (described s E tails heads S rings nexts full R) (whole_lined s E rings nexts full R)
@@ -108,7 +114,7 @@ module _ (text : List ℕ) (present : Sheet) where
 
   edges_answered : (r : ℕ) (s : Sheet) (k at : ℕ) (tails heads : List ℕ) → k + r ≡ s.edges → Edged s k → Said s k tails heads
       → WireLines text present (result present (edge_lines r text s k at)) s.vertices s.edges tails heads at
-  unfolding edge_lines with_edge with_nexts result loaded refusal_number
+  unfolding edge_lines with_edge with_nexts result returned answer_number refusal_number
   edges_answered zero s k at tails heads e E S =
       let q : k ≡ s.edges = omega arith in
       last_wire (S.tail_count ∙ q) (rings_answered s (subst (Edged s) q E) tails heads (subst (λ i. Said s i tails heads) q S) s.vertices [] s.nexts 0 at refl (omega arith) (none_ringed s k E))
@@ -142,7 +148,7 @@ inside most n (l, m) (inr q) = omega arith
 module _ (text : List ℕ) (present : Sheet) where
   wires_answered : (n at : ℕ) → (2 ≤ n) × (n ≤ 128)
       → WiresLine text present (result present (with_count (line_at wires_key text at) 256 (λ m after. edge_lines m text (empty_sheet n m) 0 after))) n at
-  unfolding with_count result loaded refusal_number empty_sheet
+  unfolding with_count result returned answer_number refusal_number empty_sheet
   wires_answered n at (a, b) = one_shaped (line_reads wires_key text at) Answered _ _ (λ f. no_wires f refl) (λ m after L.
       pick_each Answered (leb 2 m && leb m 256) _ _
       (λ t. let (c, d) = within 256 m t in
@@ -153,7 +159,7 @@ module _ (text : List ℕ) (present : Sheet) where
       Answered p = WiresLine text present (result present p) n at
 
   bars_answered : BarsLine text present (result present (parse text)) 0
-  unfolding parse with_count result loaded refusal_number
+  unfolding parse with_count result returned answer_number refusal_number
   bars_answered = one_shaped (line_reads bars_key text 0) Answered _ _ (λ f. no_bars f refl) (λ n after L.
       pick_each Answered (leb 2 n && leb n 128) _ _
       (λ t. bars L (inside 128 n (within 128 n t)) (wires_answered n after (within 128 n t)))

@@ -1,11 +1,12 @@
 -- Load accepts exactly the texts that begin with a sound sheet, each ring turned anyhow, with line ends of both kinds. Assumes nothing.
-use Rattle.std.specs.Prelude.{Ok}
+use Rattle.std.specs.Prelude.{Ok, Err, is_ok, true}
 use mathlib.Core.Path.{◌≡◌, refl, sym, ◌∙◌, ap, subst}
 use mathlib.Core.Logic.{by_cases}
 use mathlib.Core.List.{List, [], ◌∷◌, ◌++◌}
 use Prim.Native.Nat.{ℕ, suc, ◌<◌}
 use native.Mathlib.Decide.{dec_lt}
 use native.Mathlib.Omega.{arith}
+use Rattle.std.proofs.lemmas.Bool.{false≢true}
 use lib.ListN.{get_or, length, drop}
 use lib.Seq.{get_or_at}
 use Rattle.clauses.specs.Darts.{End}
@@ -13,12 +14,13 @@ use Rattle.counting.specs.Below.{join_below}
 use Rattle.text.specs.Written.{line}
 use Rattle.text.specs.Keys.{bars_key, wires_key, wire_key, around_key}
 use Rattle.layout.specs.Mixed.{MixedEnds}
-use Rattle.answers.specs.Answers.{refusal_number}
+use Rattle.answers.specs.Answers.{answer_number}
 use Rattle.sheet.specs.declared.Sheet.{Sheet}
 use Rattle.sheet.specs.Darts.{dart_at, tail, head}
 use Rattle.sheet.specs.Sound.{Sound}
 use Rattle.writesheet.specs.Rings.{rotation}
-use Rattle.load.specs.Load.{parse, load}
+use Rattle.load.specs.Load.{Parsed, parse, load, returned}
+use Rattle.load.specs.declared.Loaded.{Loaded}
 use Rattle.roundtrip.proofs.Around.{Around}
 use Rattle.roundtrip.proofs.Laid.{Laid, cyclic, cyclic_entry}
 use Rattle.roundtrip.proofs.Loaded.{loaded_sound}
@@ -34,7 +36,7 @@ use Rattle.acceptance.proofs.Accepted.{wire_line, ring_line, Front, front_splits
 
 pub load_gives : LoadGives
 unfolding turned_text
-load_gives s z S turn lines m rest present = lines_back s z S (λ v. turned (turn v) (rotation s v)) (λ v h. turned_rotates s S v h (turn v)) lines m rest present
+load_gives s z S turn lines m rest = lines_back s z S (λ v. turned (turn v) (rotation s v)) (λ v h. turned_rotates s S v h (turn v)) lines m rest
 
 -- a function from what there is for each number below n
 chosen : (P : ℕ → ℕ → Type 0) (n : ℕ) → ((v : ℕ) → v < n → (t : ℕ) × P v t) → (f : ℕ → ℕ) × ((v : ℕ) → v < n → P v (f v))
@@ -109,18 +111,23 @@ module _ (n : ℕ) (tails heads : List ℕ) (rings : List (List ℕ)) (s : Sheet
     whole = front_splits text F.bytes F.holds;
   }
 
-load_begins : (text : List ℕ) (present : Sheet) → (load text present).answer ≡ Ok tt → Begins text
-unfolding result refusal_number
-load_begins text present e =
-    let all = all_lines text present (result present (parse text)) (ap refusal_number e) (load_answered text present) in
+load_begins : (text : List ℕ) (l : Loaded) → load text ≡ Ok l → Begins text
+unfolding result returned answer_number
+load_begins text l e =
+    let all = all_lines text l.sheet (result l.sheet (parse text)) (ap answer_number e) (load_answered text l.sheet) in
     let w = all.wires_each in
     let a = w.around_each in
-    let (z, S) = loaded_sound text present e in
-    described_begins all.n w.tails w.heads a.rings (load text present).sheet S a.described w.same
+    let (z, S) = loaded_sound text l e in
+    let is : Sound (returned l.sheet (load text)).sheet = rw e S in
+    described_begins all.n w.tails w.heads a.rings (returned l.sheet (load text)).sheet is a.described w.same
     (λ v h. a.each.its v (omega (arith, a.full))) (λ v h. a.each.some v (omega (arith, a.full))) text all.m a.taken w.count a.lines
 
 pub load_accepts : LoadAccepts
-load_accepts text present = (
-  load_begins text present,
-  λ B. ap (λ l. (load l present).answer) B.whole ∙ ap (λ o. o.answer) (load_gives B.sheet B.sized B.sound B.turn B.lines B.mixed B.rest present),
+load_accepts text = (
+  go (load text) refl,
+  λ B. ap is_ok (ap load B.whole ∙ load_gives B.sheet B.sized B.sound B.turn B.lines B.mixed B.rest),
 )
+  where
+    go : (p : Parsed) → load text ≡ p → is_ok p ≡ true → Begins text
+    go (Ok l) e t = load_begins text l e
+    go (Err r) e t = absurd (false≢true t)

@@ -1,4 +1,5 @@
 -- No answer but load's is as laid down. Assumes nothing.
+use Rattle.std.specs.Prelude.{Ok, Err}
 use mathlib.Core.Path.{◌≡◌, refl, sym, ◌∙◌, ap, subst}
 use mathlib.Core.Bool.{not, ◌&&◌, false≢true}
 use mathlib.Core.List.{List, [], ◌∷◌, ◌++◌}
@@ -10,14 +11,15 @@ use lib.ListN.{get_or, length, length-append}
 use Rattle.clauses.specs.Darts.{touches_of}
 use Rattle.text.specs.Reading.{line_at}
 use Rattle.text.specs.Keys.{bars_key, wires_key, wire_key, around_key}
-use Rattle.answers.specs.Answers.{refusal_number}
-use Rattle.answers.specs.Refusals.{is_accepted}
+use Rattle.answers.specs.Answers.{Answer, refusal_number, answer_number}
+use Rattle.answers.specs.Refusals.{answering}
 use Rattle.answers.specs.Clauses.{First}
 use Rattle.answers.proofs.Clauses.{first_once}
+use Rattle.answers.proofs.Refusals.{refusal_nonzero}
 use Rattle.sheet.specs.declared.Sheet.{Sheet}
 use Rattle.sheet.specs.Check.{judge}
 use Rattle.load.specs.Rings.{is_rotation, link_ring}
-use Rattle.load.specs.Load.{Parsed, empty_sheet, with_edge, with_nexts, judged, ring_lines, edge_lines, with_count, parse, loaded}
+use Rattle.load.specs.Load.{Parsed, empty_sheet, with_edge, with_nexts, judged, ring_lines, edge_lines, with_count, parse, returned}
 use Rattle.roundtrip.proofs.Around.{around_law}
 use Rattle.roundtrip.proofs.Linking.{link_anew}
 use Rattle.roundtrip.proofs.Loaded.{pick_each, Edged, edge_says, edge_read, empty_read, Ringed, ring_read, none_ringed, whole_lined}
@@ -46,24 +48,28 @@ module _ (text : List ℕ) (present : Sheet) (r : Result) where
           (λ v h. around_its s tails heads S (R.laid v (omega arith)).around)
           s' (with_nexts s nexts) D (described s E tails heads S rings nexts full R)
 
-      number_is : (s' : Sheet) (number : ℕ) → Describes s.vertices tails heads rings s' → First (after_last s') number → number ≡ refusal_number (judge (with_nexts s nexts))
+      number_is : (s' : Sheet) (number : ℕ) → Describes s.vertices tails heads rings s' → First (after_last s') number → number ≡ answer_number (judge (with_nexts s nexts))
       number_is s' number D f = first_once (after_last (with_nexts s nexts)) number _ (subst (λ x. First (after_last x) number) (same s' D) f) (judged_first (with_nexts s nexts) (whole_lined s E rings nexts full R))
 
       refused_once : (s' : Sheet) (number : ℕ) → Describes s.vertices tails heads rings s' → First (after_last s') number → (number ≡ 0 → ⊥) → r ≡ refusal present number → Is (judged (with_nexts s nexts) at)
-      unfolding judged result loaded is_accepted
-      refused_once s' number D f n e = pick_each Is (is_accepted (judge (with_nexts s nexts))) _ _
-          (λ t. absurd (n (number_is s' number D f ∙ eqb-true _ 0 t)))
-          (λ t. e ∙ ap (refusal present) (number_is s' number D f))
+      unfolding judged result returned answering answer_number
+      refused_once s' number D f n e = go (judge (with_nexts s nexts)) refl
+        where
+          go : (a : Answer) → judge (with_nexts s nexts) ≡ a → Is (answering a (λ _. record { sheet = with_nexts s nexts; taken = at }))
+          go (Ok u) t = absurd (n (number_is s' number D f ∙ ap answer_number t))
+          go (Err q) t = e ∙ ap (refusal present) (number_is s' number D f ∙ ap answer_number t)
 
       accepted_once : (s' : Sheet) → Describes s.vertices tails heads rings s' → First (after_last s') 0 → r ≡ acceptance s' at → Is (judged (with_nexts s nexts) at)
-      unfolding judged result loaded is_accepted refusal_number
-      accepted_once s' D f e = pick_each Is (is_accepted (judge (with_nexts s nexts))) _ _
-          (λ t. e ∙ ap (λ x. acceptance x at) (same s' D))
-          (λ t. absurd (eqb-false (refusal_number (judge (with_nexts s nexts))) 0 t (sym (number_is s' 0 D f))))
+      unfolding judged result returned answering answer_number
+      accepted_once s' D f e = go (judge (with_nexts s nexts)) refl
+        where
+          go : (a : Answer) → judge (with_nexts s nexts) ≡ a → Is (answering a (λ _. record { sheet = with_nexts s nexts; taken = at }))
+          go (Ok u) t = e ∙ ap (λ x. acceptance x at) (same s' D)
+          go (Err q) t = absurd (refusal_nonzero q (sym (number_is s' 0 D f ∙ ap answer_number t)))
 
     rings_once : (k : ℕ) (rings : List (List ℕ)) (nexts : List ℕ) (v at : ℕ) → length rings ≡ v → v + k ≡ s.vertices → Ringed s rings nexts
         → AroundLines text present r s.vertices tails heads rings at → Is (ring_lines k text (with_nexts s nexts) v at)
-    unfolding ring_lines with_nexts is_rotation touches_of result loaded refusal_number
+    unfolding ring_lines with_nexts is_rotation touches_of result returned answer_number refusal_number
     rings_once zero rings nexts v at z q R (no_around h f e) = absurd (omega arith)
     rings_once zero rings nexts v at z q R (bad_around h L f e) = absurd (omega arith)
     rings_once zero rings nexts v at z q R (around h L W A) = absurd (omega arith)
@@ -82,7 +88,7 @@ module _ (text : List ℕ) (present : Sheet) (r : Result) where
 
   edges_once : (i : ℕ) (s : Sheet) (k at : ℕ) (tails heads : List ℕ) → k + i ≡ s.edges → Edged s k → Said s k tails heads
       → WireLines text present r s.vertices s.edges tails heads at → Is (edge_lines i text s k at)
-  unfolding edge_lines with_edge with_nexts result loaded refusal_number
+  unfolding edge_lines with_edge with_nexts result returned answer_number refusal_number
   edges_once zero s k at tails heads q E S (no_wire h f e) = absurd (omega (arith, S.tail_count))
   edges_once zero s k at tails heads q E S (bad_wire h L f e) = absurd (omega (arith, S.tail_count))
   edges_once zero s k at tails heads q E S (wire h L f A) = absurd (omega (arith, S.tail_count))
@@ -102,7 +108,7 @@ module _ (text : List ℕ) (present : Sheet) (r : Result) where
 
   wires_once : (n at : ℕ) → (2 ≤ n) × (n ≤ 128) → WiresLine text present r n at
       → Is (with_count (line_at wires_key text at) 256 (λ m after. edge_lines m text (empty_sheet n m) 0 after))
-  unfolding with_count result loaded refusal_number empty_sheet
+  unfolding with_count result returned answer_number refusal_number empty_sheet
   wires_once n at w (no_wires f e) = one_none (line_reads wires_key text at) Is _ _ f e
   wires_once n at w (bad_wires {m} L o e) = one_read (line_reads wires_key text at) Is _ _ L (pick_each Is (leb 2 m && leb m 256) _ _ (λ t. absurd (inside 256 m (within 256 m t) o)) (λ t. e))
   wires_once n at (a, b) (wires {m} {after} L o A) = one_read (line_reads wires_key text at) Is _ _ L (pick_each Is (leb 2 m && leb m 256) _ _
@@ -110,7 +116,7 @@ module _ (text : List ℕ) (present : Sheet) (r : Result) where
       (λ t. absurd (o (not_within 256 m t))))
 
   bars_once : BarsLine text present r 0 → Is (parse text)
-  unfolding parse with_count result loaded refusal_number
+  unfolding parse with_count result returned answer_number refusal_number
   bars_once (no_bars f e) = one_none (line_reads bars_key text 0) Is _ _ f e
   bars_once (bad_bars {n} L o e) = one_read (line_reads bars_key text 0) Is _ _ L (pick_each Is (leb 2 n && leb n 128) _ _ (λ t. absurd (inside 128 n (within 128 n t) o)) (λ t. e))
   bars_once (bars {n} {after} L o W) = one_read (line_reads bars_key text 0) Is _ _ L (pick_each Is (leb 2 n && leb n 128) _ _ (λ t. wires_once n after (within 128 n t) W) (λ t. absurd (o (not_within 128 n t))))

@@ -1,23 +1,23 @@
 -- Which texts load accepts, and which number falls otherwise.
-use Rattle.std.specs.Prelude.{◌≡◌, ◌↔◌, List, ◌++◌, ℕ, length, take, drop, Ok}
+use Rattle.std.specs.Prelude.{◌≡◌, ◌↔◌, List, ◌++◌, ℕ, length, take, drop, true, Ok, is_ok}
 use Rattle.layout.specs.Mixed.{MixedEnds}
-use Rattle.answers.specs.Answers.{refusal_number}
+use Rattle.answers.specs.Answers.{answer_number}
 use Rattle.sheet.specs.declared.Sheet.{Sheet}
 use Rattle.sheet.specs.Darts.{Sized}
 use Rattle.sheet.specs.Sound.{Sound}
 use Rattle.writesheet.specs.Rings.{rotation}
 use Rattle.writesheet.specs.Write.{sheet_lines}
-use Rattle.load.specs.Load.{load}
+use Rattle.load.specs.Load.{load, returned}
 use Rattle.acceptance.specs.Loading.{LoadAnswered}
 
 -- Load answers as laid down.
 abbrev pub LoadAnsweredLaw : Type 0
-LoadAnsweredLaw = (text : List ℕ) (present : Sheet) → LoadAnswered text present (refusal_number (load text present).answer) (load text present).sheet (load text present).taken
+LoadAnsweredLaw = (text : List ℕ) (present : Sheet) → LoadAnswered text present (answer_number (load text)) (returned present (load text)).sheet (returned present (load text)).taken
 
 -- What is laid down leaves nothing free: no other answer is as laid down.
 abbrev pub AnsweredOnce : Type 0
 AnsweredOnce = (text : List ℕ) (present : Sheet) (number : ℕ) (sheet : Sheet) (taken : ℕ) → LoadAnswered text present number sheet taken
-    → (number ≡ refusal_number (load text present).answer) × (sheet ≡ (load text present).sheet) × (taken ≡ (load text present).taken)
+    → (number ≡ answer_number (load text)) × (sheet ≡ (returned present (load text)).sheet) × (taken ≡ (returned present (load text)).taken)
 
 -- a list that begins t places later, and goes on from its front
 unfoldable pub turned : ℕ → List ℕ → List ℕ
@@ -40,9 +40,9 @@ pub record Begins (text : List ℕ) : Type 0 where
 
 -- Load accepts exactly these texts.
 abbrev pub LoadAccepts : Type 0
-LoadAccepts = (text : List ℕ) (present : Sheet) → (load text present).answer ≡ Ok tt ↔ Begins text
+LoadAccepts = (text : List ℕ) → is_ok (load text) ≡ true ↔ Begins text
 
 -- It gives that sheet, and takes its bytes.
 abbrev pub LoadGives : Type 0
-LoadGives = (s : Sheet) → Sized s → Sound s → (turn : ℕ → ℕ) (lines : List ℕ) → MixedEnds (turned_text s turn) lines → (rest : List ℕ) (present : Sheet)
-    → load (lines ++ rest) present ≡ record { answer = Ok tt; sheet = s; taken = length lines }
+LoadGives = (s : Sheet) → Sized s → Sound s → (turn : ℕ → ℕ) (lines : List ℕ) → MixedEnds (turned_text s turn) lines → (rest : List ℕ)
+    → load (lines ++ rest) ≡ Ok (record { sheet = s; taken = length lines })

@@ -1,8 +1,9 @@
 -- Which refusal falls, and what acceptance says. Assumes nothing.
-use Rattle.std.proofs.Common.{◌≡◌, refl, ◌↔◌, Bool, true, false, not, List, [], ◌∷◌, Result, Ok, Err}
+use Rattle.std.proofs.Common.{◌≤◌, arith, ◌≡◌, refl, ◌↔◌, Bool, true, false, not, List, [], ◌∷◌, Result, Ok, Err}
 use Rattle.std.proofs.lemmas.Bool.{false≢true}
 use Rattle.answers.specs.declared.Refusal.{Refusal}
-use Rattle.answers.specs.Answers.{Answer}
+use Rattle.answers.specs.declared.Refusal.TheVariants.{BadLayout, CountOutOfLimits, BadEdge, BadRotation, BadRoot, Cyclic, BadPoles, NotPlanar, NotSound, NotInSheet, Full, RootEdge, CornersApart, ClosesCircle, EdgeNeeded, VertexNeeded, BufferTooShort, InputTooLong}
+use Rattle.answers.specs.Answers.{Answer, refusal_number}
 use Rattle.answers.specs.Refusals.{Test, first, ◌if◌, is_accepted, answering}
 
 -- where nothing refuses
@@ -36,3 +37,28 @@ module _ {A : Type 0} (a : Answer) (value : Unit {0} → A) where
   pub answering_accepted : a ≡ Ok tt → (v : A) → v ≡ value tt → Ok v ≡ answering a value
   unfolding answering
   answering_accepted e v q = rw (e, q) refl
+
+-- a refusal has a number from 1 to 18
+pub refusal_within : (r : Refusal) → (1 ≤ refusal_number r) × (refusal_number r ≤ 18)
+unfolding refusal_number
+refusal_within BadLayout = (omega arith, omega arith)
+refusal_within CountOutOfLimits = (omega arith, omega arith)
+refusal_within BadEdge = (omega arith, omega arith)
+refusal_within BadRotation = (omega arith, omega arith)
+refusal_within BadRoot = (omega arith, omega arith)
+refusal_within Cyclic = (omega arith, omega arith)
+refusal_within BadPoles = (omega arith, omega arith)
+refusal_within NotPlanar = (omega arith, omega arith)
+refusal_within NotSound = (omega arith, omega arith)
+refusal_within NotInSheet = (omega arith, omega arith)
+refusal_within Full = (omega arith, omega arith)
+refusal_within RootEdge = (omega arith, omega arith)
+refusal_within CornersApart = (omega arith, omega arith)
+refusal_within ClosesCircle = (omega arith, omega arith)
+refusal_within EdgeNeeded = (omega arith, omega arith)
+refusal_within VertexNeeded = (omega arith, omega arith)
+refusal_within BufferTooShort = (omega arith, omega arith)
+refusal_within InputTooLong = (omega arith, omega arith)
+
+pub refusal_nonzero : (r : Refusal) → refusal_number r ≡ 0 → ⊥
+refusal_nonzero r e = omega (arith, (refusal_within r).0, e)
