@@ -1,25 +1,24 @@
 -- Demand 3: every list of loads and edits. Assumes nothing.
-use Rattle.std.specs.Prelude.{Ok}
+use Rattle.std.specs.Prelude.{Ok, Err}
 use Prim.Native.Nat.{ℕ}
 use mathlib.Core.Path.{◌≡◌, refl}
 use mathlib.Core.Logic.{◌≢◌}
 use mathlib.Core.Bool.{true, false}
 use mathlib.Core.List.{List, [], ◌∷◌}
 use Rattle.counting.proofs.Iterate.{by_bool, clash}
-use Rattle.answers.specs.Answers.{Answer}
-use Rattle.answers.specs.Answers.{refusal_number}
-use Rattle.answers.specs.Refusals.{is_accepted}
+use Rattle.answers.specs.Answers.{Answer, answer_number}
+use Rattle.answers.specs.Refusals.{answering}
 use Rattle.answers.specs.Clauses.{Clause, First}
-use Rattle.answers.proofs.Refusals.{accepted_is}
+use Rattle.answers.proofs.Refusals.{refusal_nonzero}
 use Rattle.sheet.specs.declared.Sheet.{Sheet}
 use Rattle.sheet.specs.Fresh.{fresh_sheet}
 use Rattle.soundness.proofs.Tests.{Says, eq_says}
 use Rattle.soundness.proofs.Law.{sound_law}
 use Rattle.soundness.proofs.Fresh.{fresh_law, fresh_sized}
-use Rattle.load.specs.Load.{Parsed, parsed, refused, parse, loaded, load}
+use Rattle.load.specs.Load.{Parsed, load, returned}
 use Rattle.roundtrip.proofs.Loaded.{loaded_sound}
 use Rattle.edit.specs.Changes.{put_in, run_edge, take_out_edge, take_out_vertex}
-use Rattle.edit.specs.Calls.{put_in_answer, run_answer, take_out_edge_answer, take_out_vertex_answer, edited}
+use Rattle.edit.specs.Calls.{put_in_answer, run_answer, take_out_edge_answer, take_out_vertex_answer, sheet_after}
 use Rattle.preservation.specs.Laws.{Whole}
 use Rattle.preservation.proofs.PutIn.{put_in_whole}
 use Rattle.preservation.proofs.RunEdge.{run_whole}
@@ -36,39 +35,28 @@ use Rattle.demand.specs.Demand.{Each, Demand}
 use Rattle.demand.specs.Demand.Each.{none, then}
 use Rattle.demand.proofs.Refusals.{put_in_number, run_number, take_out_edge_number, take_out_vertex_number}
 
--- a number is 0 where its answer is acceptance
-zero_says : (a : Answer) → Says (is_accepted a) (refusal_number a ≡ 0)
-unfolding is_accepted
-zero_says a = eq_says (refusal_number a) 0
-
 -- a call answers as A says and leaves a sound sheet
 abbrev Left : Type 0 → Outcome → Type 0
 Left A o = A × Whole o.sheet
 
 -- an edit, from its answer
-module _ (s : Sheet) (w : Whole s) (refusals : List Clause) (a : Answer) (made : Unit {0} → Sheet) (number : First refusals (refusal_number a)) where
-  edit_left : (a ≡ Ok tt → Whole (made tt)) → Left (EditAnswered refusals s (made tt) (of_edit (edited a s made))) (of_edit (edited a s made))
-  unfolding edited
-  edit_left good = by_bool (is_accepted a) accepts refuses
-    where
-      accepts : is_accepted a ≡ true → Left (EditAnswered refusals s (made tt) (of_edit (edited a s made))) (of_edit (edited a s made))
-      accepts t =
-          let g = good (accepted_is a t) in
-          rw t (record { number = number; refused = λ n. absurd (n ((zero_says a).0 t)); accepted = λ _. refl; sound = λ _. g.0; taken = refl }, g)
-
-      refuses : is_accepted a ≡ false → Left (EditAnswered refusals s (made tt) (of_edit (edited a s made))) (of_edit (edited a s made))
-      refuses t =
-          let n : refusal_number a ≢ 0 = λ e. clash ((zero_says a).1 e) t in
-          rw t (record { number = number; refused = λ _. refl; accepted = λ e. absurd (n e); sound = λ e. absurd (n e); taken = refl }, w)
+edit_left : (s : Sheet) → Whole s → (refusals : List Clause) (a : Answer) (made : Unit {0} → Sheet) → First refusals (answer_number a) → (a ≡ Ok tt → Whole (made tt))
+    → let o = of_edit s (answering a made) in Left (EditAnswered refusals s (made tt) o) o
+unfolding answering answer_number sheet_after
+edit_left s w refusals (Ok u) made number good =
+    let g = good refl in
+    (record { number = number; refused = λ n. absurd (n refl); accepted = λ _. refl; sound = λ _. g.0; taken = refl }, g)
+edit_left s w refusals (Err r) made number good =
+    (record { number = number; refused = λ _. refl; accepted = λ e. absurd (refusal_nonzero r e); sound = λ e. absurd (refusal_nonzero r e); taken = refl }, w)
 
 -- load leaves a sound sheet: the present one, or the one that it read
-load_whole : (text : List ℕ) (present : Sheet) → Whole present → Whole (load text present).sheet
-unfolding loaded
-load_whole text present w = go (parse text) refl
+load_whole : (text : List ℕ) (present : Sheet) → Whole present → Whole (returned present (load text)).sheet
+unfolding returned
+load_whole text present w = go (load text) refl
   where
-    go : (p : Parsed) → parse text ≡ p → Whole (load text present).sheet
-    go (parsed s taken) e = let (z, S) = loaded_sound text present (rw e refl) in (S, z)
-    go (refused a) e = rw e w
+    go : (p : Parsed) → load text ≡ p → Whole (returned present p).sheet
+    go (Ok l) e = let (z, S) = loaded_sound text l e in (S, z)
+    go (Err r) e = w
 
 module _ (s : Sheet) (w : Whole s) where
   call_left : (c : Call) → Left (Answered s c (outcome s c)) (outcome s c)

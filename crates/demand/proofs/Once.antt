@@ -5,18 +5,10 @@ use mathlib.Core.Logic.{inl, inr, by_cases}
 use mathlib.Core.List.{List, [], ◌∷◌}
 use native.Mathlib.Decide.{ℕ_discrete}
 use Rattle.answers.specs.Clauses.{Clause, First}
+use Rattle.answers.proofs.Clauses.{first_once}
 use Rattle.sheet.specs.declared.Sheet.{Sheet}
 use Rattle.demand.specs.Calls.{Outcome}
 use Rattle.demand.specs.Answered.{EditAnswered}
-
--- the number of the first clause that holds is one number
-first_once : (cs : List Clause) (a b : ℕ) → First cs a → First cs b → a ≡ b
-unfolding First
-first_once [] a b x y = x ∙ sym y
-first_once (c ∷ cs) a b (inl (f, x)) (inl (g, y)) = x ∙ sym y
-first_once (c ∷ cs) a b (inl (f, x)) (inr (g, y)) = absurd (g f)
-first_once (c ∷ cs) a b (inr (f, x)) (inl (g, y)) = absurd (f g)
-first_once (c ∷ cs) a b (inr (f, x)) (inr (g, y)) = first_once cs a b x y
 
 -- two outcomes that meet it are one
 pub edit_once : (refusals : List Clause) (s made : Sheet) (o p : Outcome) → EditAnswered refusals s made o → EditAnswered refusals s made p → o ≡ p

@@ -12,7 +12,7 @@ use Rattle.counting.proofs.Iterate.{not-false}
 use Rattle.counting.proofs.Counts.{count_onto}
 use Rattle.counting.proofs.Orbits.{kept_joined}
 use Rattle.answers.specs.declared.Refusal.TheVariants.{NotSound, NotInSheet, Full, RootEdge, CornersApart, ClosesCircle, EdgeNeeded, VertexNeeded}
-use Rattle.answers.specs.Answers.{refusal_number}
+use Rattle.answers.specs.Answers.{refusal_number, answer_number}
 use Rattle.answers.specs.Clauses.{First}
 use Rattle.answers.proofs.Clauses.{first_number}
 use Rattle.answers.proofs.Clauses.Agree.{none, then}
@@ -50,13 +50,13 @@ regroup x = reworded x
 was_sound : (s : Sheet) → Sized s → not (sound s) ≡ false → Sound s
 was_sound s z e = (sound_law s z).0 (not-false (sound s) e)
 
-pub put_in_number : (s : Sheet) → Sized s → (k : ℕ) → First (put_in_refusals s k) (refusal_number (put_in_answer s k))
+pub put_in_number : (s : Sheet) → Sized s → (k : ℕ) → First (put_in_refusals s k) (answer_number (put_in_answer s k))
 unfolding put_in_answer put_in_refusals refusal_number
 put_in_number s z k = first_number
-    (then {a = NotSound} refl (not_says (sound_law s z)) (λ _.
-    then {a = NotInSheet} refl (le_says s.edges k) (λ _.
-    then {a = RootEdge} refl (eq_says k 0) (λ _.
-    then {a = Full} refl (or_says (eq_says s.vertices 128) (eq_says s.edges 256)) (λ _.
+    (then {r = NotSound} refl (not_says (sound_law s z)) (λ _.
+    then {r = NotInSheet} refl (le_says s.edges k) (λ _.
+    then {r = RootEdge} refl (eq_says k 0) (λ _.
+    then {r = Full} refl (or_says (eq_says s.vertices 128) (eq_says s.edges 256)) (λ _.
     none)))))
 
 -- an end of a wire of the sheet at a bar is the one that `dart_at` gives
@@ -98,14 +98,14 @@ module _ (s : Sheet) (S : Sound s) (a p b q : ℕ) (p_in : p < s.edges) (q_in : 
       (or_says (not_says (touches_says s S p a p_in)) (not_says (touches_says s S q b q_in)))
       (λ f. let (t, u) = neither (not (touches s p a)) (not (touches s q b)) f in corners_says (not-false (touches s p a) t) (not-false (touches s q b) u)))
 
-pub run_number : (s : Sheet) → Sized s → (a p b q : ℕ) → First (run_refusals s a p b q) (refusal_number (run_answer s a p b q))
+pub run_number : (s : Sheet) → Sized s → (a p b q : ℕ) → First (run_refusals s a p b q) (answer_number (run_answer s a p b q))
 unfolding run_answer run_refusals refusal_number
 run_number s z a p b q = first_number
-    (then {a = NotSound} refl (not_says (sound_law s z)) (λ u.
-    then {a = NotInSheet} refl not_in_says (λ f. let (a_in, b_in, p_in, q_in) = all_in f in
-    then {a = CornersApart} refl (apart_says s (was_sound s z u) a p b q p_in q_in) (λ _.
-    then {a = ClosesCircle} refl (or_says (eq_says a b) (leads_to_law s (was_sound s z u) b a b_in a_in)) (λ _.
-    then {a = Full} refl (eq_says s.edges 256) (λ _.
+    (then {r = NotSound} refl (not_says (sound_law s z)) (λ u.
+    then {r = NotInSheet} refl not_in_says (λ f. let (a_in, b_in, p_in, q_in) = all_in f in
+    then {r = CornersApart} refl (apart_says s (was_sound s z u) a p b q p_in q_in) (λ _.
+    then {r = ClosesCircle} refl (or_says (eq_says a b) (leads_to_law s (was_sound s z u) b a b_in a_in)) (λ _.
+    then {r = Full} refl (eq_says s.edges 256) (λ _.
     none))))))
   where
     not_in_says : Says (no_vertex s a || no_vertex s b || no_edge s p || no_edge s q) ((s.vertices ≤ a) ⊎ (s.vertices ≤ b) ⊎ (s.edges ≤ p) ⊎ (s.edges ≤ q))
@@ -142,19 +142,19 @@ alone_says s end k k_in = reworded (one_says s end (end k))
     (λ x (j, h, ne, q). ne (x.only j h q ∙ sym (x.only k k_in refl)))
     (λ n. record { edge = k; edge_in = k_in; at_vertex = refl; only = λ j h q. by_cases (ℕ_discrete j k) (λ e. e) (λ e. absurd (n (j, h, e, q))) })
 
-pub take_out_edge_number : (s : Sheet) → Sized s → (k : ℕ) → First (take_out_edge_refusals s k) (refusal_number (take_out_edge_answer s k))
+pub take_out_edge_number : (s : Sheet) → Sized s → (k : ℕ) → First (take_out_edge_refusals s k) (answer_number (take_out_edge_answer s k))
 unfolding take_out_edge_answer take_out_edge_refusals refusal_number out_degree in_degree
 take_out_edge_number s z k = first_number
-    (then {a = NotSound} refl (not_says (sound_law s z)) (λ _.
-    then {a = NotInSheet} refl (le_says s.edges k) (λ f. let k_in = not_at_most s.edges k f in
-    then {a = RootEdge} refl (eq_says k 0) (λ _.
-    then {a = EdgeNeeded} refl (regroup (or_says (or_says (eq_says s.edges 2) (alone_says s (tail s) k k_in)) (alone_says s (head s) k k_in))) (λ _.
+    (then {r = NotSound} refl (not_says (sound_law s z)) (λ _.
+    then {r = NotInSheet} refl (le_says s.edges k) (λ f. let k_in = not_at_most s.edges k f in
+    then {r = RootEdge} refl (eq_says k 0) (λ _.
+    then {r = EdgeNeeded} refl (regroup (or_says (or_says (eq_says s.edges 2) (alone_says s (tail s) k k_in)) (alone_says s (head s) k k_in))) (λ _.
     none)))))
 
-pub take_out_vertex_number : (s : Sheet) → Sized s → (v : ℕ) → First (take_out_vertex_refusals s v) (refusal_number (take_out_vertex_answer s v))
+pub take_out_vertex_number : (s : Sheet) → Sized s → (v : ℕ) → First (take_out_vertex_refusals s v) (answer_number (take_out_vertex_answer s v))
 unfolding take_out_vertex_answer take_out_vertex_refusals refusal_number out_degree in_degree
 take_out_vertex_number s z v = first_number
-    (then {a = NotSound} refl (not_says (sound_law s z)) (λ _.
-    then {a = NotInSheet} refl (le_says s.vertices v) (λ _.
-    then {a = VertexNeeded} refl (regroup (or_says (or_says (eq_says v 0) (eq_says v 1)) (not_says (and_says (one_says s (head s) v) (one_says s (tail s) v))))) (λ _.
+    (then {r = NotSound} refl (not_says (sound_law s z)) (λ _.
+    then {r = NotInSheet} refl (le_says s.vertices v) (λ _.
+    then {r = VertexNeeded} refl (regroup (or_says (or_says (eq_says v 0) (eq_says v 1)) (not_says (and_says (one_says s (head s) v) (one_says s (tail s) v))))) (λ _.
     none))))

@@ -1,11 +1,11 @@
 -- The five calls that change a sheet, and a list of them.
-use Rattle.std.specs.Prelude.{ℕ, List, [], ◌∷◌}
+use Rattle.std.specs.Prelude.{ℕ, List, [], ◌∷◌, Result}
 use Rattle.sheet.specs.declared.Sheet.{Sheet}
-use Rattle.answers.specs.Answers.{refusal_number}
+use Rattle.answers.specs.declared.Refusal.{Refusal}
+use Rattle.answers.specs.Answers.{answer_number}
 use Rattle.sheet.specs.Fresh.{fresh_sheet}
-use Rattle.load.specs.Load.{load}
-use Rattle.edit.specs.declared.Edited.{Edited}
-use Rattle.edit.specs.Calls.{put_in_call, run_call, take_out_edge_call, take_out_vertex_call}
+use Rattle.load.specs.Load.{load, returned}
+use Rattle.edit.specs.Calls.{put_in_call, run_call, take_out_edge_call, take_out_vertex_call, sheet_after}
 
 -- each call comes with any text or numbers
 pub data Call : Type 0 where
@@ -21,15 +21,16 @@ pub record Outcome : Type 0 where
   pub sheet : Sheet
   pub taken : ℕ
 
-abbrev pub of_edit : Edited → Outcome
-of_edit e = record { number = refusal_number e.answer; sheet = e.sheet; taken = 0 }
+-- a refused call returns the sheet s that it got
+abbrev pub of_edit : Sheet → Result Sheet Refusal → Outcome
+of_edit s e = record { number = answer_number e; sheet = sheet_after s e; taken = 0 }
 
 unfoldable pub outcome : Sheet → Call → Outcome
-outcome s (LoadText text) = let l = load text s in record { number = refusal_number l.answer; sheet = l.sheet; taken = l.taken }
-outcome s (PutIn k) = of_edit (put_in_call s k)
-outcome s (RunEdge a p b q) = of_edit (run_call s a p b q)
-outcome s (TakeOutEdge k) = of_edit (take_out_edge_call s k)
-outcome s (TakeOutVertex v) = of_edit (take_out_vertex_call s v)
+outcome s (LoadText text) = let l = load text in record { number = answer_number l; sheet = (returned s l).sheet; taken = (returned s l).taken }
+outcome s (PutIn k) = of_edit s (put_in_call s k)
+outcome s (RunEdge a p b q) = of_edit s (run_call s a p b q)
+outcome s (TakeOutEdge k) = of_edit s (take_out_edge_call s k)
+outcome s (TakeOutVertex v) = of_edit s (take_out_vertex_call s v)
 
 -- what a list of calls answers: each call gets the sheet that the one before it returned
 unfoldable pub outcomes : Sheet → List Call → List Outcome

@@ -19,7 +19,7 @@ pub data Each : Sheet → List Call → List Outcome → Sheet → Type 0 where
 pub record Holds (cs : List Call) : Type 0 where
   pub answers : Each fresh_sheet cs (outcomes fresh_sheet cs) (after_calls cs)
   pub sound : Sound (after_calls cs)
-  pub drawn : draw_call (after_calls cs) ≡ record { answer = Ok tt; drawing = drawing_of (after_calls cs) }
+  pub drawn : draw_call (after_calls cs) ≡ Ok (drawing_of (after_calls cs))
   pub laid : Laid (after_calls cs) (drawing_of (after_calls cs))
   pub correct : Correct (after_calls cs) (drawing_of (after_calls cs))
 

@@ -1,18 +1,17 @@
 -- The drawing of a sheet, and draw.
-use Rattle.std.specs.Prelude.{ℕ, ◌+◌, ◌-◌, min, max, not, cond, List, [], ◌∷◌, ◌++◌, map, ltb, replicate}
+use Rattle.std.specs.Prelude.{ℕ, ◌+◌, ◌-◌, min, max, not, cond, List, [], ◌∷◌, ◌++◌, map, ltb, replicate, Result, Ok, Err}
 use Rattle.counting.specs.Below.{list_below, tabulate}
-use Rattle.counting.specs.Choice.{pick}
 use Rattle.sheet.specs.declared.Sheet.{Sheet}
 use Rattle.answers.specs.Answers.{Answer}
+use Rattle.answers.specs.declared.Refusal.{Refusal}
 use Rattle.answers.specs.declared.Refusal.TheVariants.{NotSound}
-use Rattle.answers.specs.Refusals.{first, ◌if◌, is_accepted}
+use Rattle.answers.specs.Refusals.{first, ◌if◌, answering}
 use Rattle.clauses.specs.Darts.{tail_dart, head_dart}
 use Rattle.sheet.specs.Darts.{tail, head, touches}
 use Rattle.sheet.specs.Check.{sound, row, face, column}
 use Rattle.drawing.specs.declared.VertexSegment.{VertexSegment}
 use Rattle.drawing.specs.declared.EdgeSegment.{EdgeSegment}
 use Rattle.drawing.specs.declared.Drawing.{Drawing}
-use Rattle.drawing.specs.declared.Drawn.{Drawn}
 
 -- A wire stands in the column of its left face.
 unfoldable pub edge_column : Sheet → ℕ → ℕ
@@ -74,7 +73,9 @@ zero_drawing = record { rows = 0; columns = 0; vertices = replicate 128 no_verte
 unfoldable pub draw_answer : Sheet → Answer
 draw_answer s = first (NotSound if not (sound s) ∷ [])
 
-unfoldable pub draw_call : Sheet → Drawn
-draw_call s = pick (is_accepted (draw_answer s))
-    (λ _. record { answer = draw_answer s; drawing = drawing_of s })
-    (λ _. record { answer = draw_answer s; drawing = zero_drawing })
+abbrev pub draw_call : Sheet → Result Drawing Refusal
+draw_call s = answering (draw_answer s) (λ _. drawing_of s)
+
+unfoldable pub returned : Result Drawing Refusal → Drawing
+returned (Ok d) = d
+returned (Err r) = zero_drawing

@@ -1,10 +1,10 @@
 -- The text of a drawing, and write drawing.
-use Rattle.std.specs.Prelude.{ℕ, List, [], ◌∷◌, ◌++◌, get_or}
+use Rattle.std.specs.Prelude.{ℕ, List, [], ◌∷◌, ◌++◌, get_or, Result}
 use Rattle.counting.specs.Below.{join_below}
 use Rattle.text.specs.Bytes.{bytes}
 use Rattle.text.specs.Written.{line}
 use Rattle.sheet.specs.declared.Sheet.{Sheet}
-use Rattle.writesheet.specs.declared.Written.{Written}
+use Rattle.answers.specs.declared.Refusal.{Refusal}
 use Rattle.text.specs.Keys.{wire_key}
 use Rattle.writesheet.specs.Write.{write_answer, written, buffer_after}
 use Rattle.drawing.specs.declared.VertexSegment.{VertexSegment}
@@ -41,7 +41,7 @@ abbrev pub drawing_text_of : Sheet → List ℕ
 drawing_text_of s = drawing_text s.vertices s.edges (drawing_of s)
 
 -- Write drawing takes a sheet; it refuses 9, then 17.
-abbrev pub write_drawing : Sheet → List ℕ → Written
+abbrev pub write_drawing : Sheet → List ℕ → Result ℕ Refusal
 write_drawing s buffer = written (write_answer s (drawing_text_of s) buffer) (drawing_text_of s)
 
 abbrev pub buffer_after_drawing : Sheet → List ℕ → List ℕ

@@ -1,8 +1,6 @@
 // The drawing of a sheet.
 #![tactic(auto)]
 
-use answers::Answer;
-
 // A vertex (bar) lies in its row, from its first to its last column.
 #[repr(C)]
 #[derive(Clone, Copy)]
@@ -29,11 +27,4 @@ pub struct Drawing {
     pub columns: u16,
     pub vertices: [VertexSegment; 128],
     pub edges: [EdgeSegment; 256],
-}
-
-// What draw answers: the drawing, or a record of zeros where it refuses.
-#[derive(Clone, Copy)]
-pub struct Drawn {
-    pub answer: Answer,
-    pub drawing: Drawing,
 }

@@ -10,7 +10,7 @@ use Rattle.layout.specs.Layout.{Stands, LastLineAt}
 use Rattle.layout.specs.Layout.LastLineAt.{whole, bare}
 use Rattle.layout.proofs.Standing.{stands_left}
 use Rattle.layout.proofs.Shapes.{last_line_reads, one_shaped, four_shaped, one_none, four_none, one_read, four_read}
-use Rattle.answers.specs.Answers.{refusal_number}
+use Rattle.answers.specs.Answers.{refusal_number, answer_number}
 use Rattle.edit.specs.declared.Edit.{Edit}
 use Rattle.edit.specs.declared.Edit.TheVariants.{In, Run, Out, Off, Refused}
 use Rattle.edit.specs.Lines.{in_key, run_key, out_key, off_key, edit_of, edit_answer, read_edit}
@@ -72,28 +72,28 @@ module _ (text : List ℕ) where
       (one_read (last_line_reads off_key text 0) (λ x. Off v ≡ x) _ _ L refl)))
 
 -- an edit is accepted
-accepted : {text : List ℕ} {e : Edit} → EditLine text e → refusal_number (edit_answer e) ≡ 0
-unfolding refusal_number
+accepted : {text : List ℕ} {e : Edit} → EditLine text e → answer_number (edit_answer e) ≡ 0
+unfolding answer_number
 accepted (in_line L) = refl
 accepted (run_line L) = refl
 accepted (out_line L) = refl
 accepted (off_line L) = refl
 
 pub read_answered : ReadAnsweredLaw
-unfolding read_edit refusal_number
+unfolding read_edit answer_number refusal_number
 read_answered text = go (edit_line text)
   where
-    go : EditLine text (edit_of text) ⊎ NoLine text (edit_of text) → ReadAnswered text (refusal_number (edit_answer (edit_of text))) (edit_of text) (read_edit text).taken
+    go : EditLine text (edit_of text) ⊎ NoLine text (edit_of text) → ReadAnswered text (answer_number (edit_answer (edit_of text))) (edit_of text) (read_edit text).taken
     go (inl L) = reads L (accepted L) (length_takes text)
-    go (inr N) = refuses N.none (ap (λ e. refusal_number (edit_answer e)) N.refused) N.refused (length_takes text)
+    go (inr N) = refuses N.none (ap (λ e. answer_number (edit_answer e)) N.refused) N.refused (length_takes text)
 
 pub read_once : ReadOnce
-unfolding read_edit refusal_number
+unfolding read_edit answer_number refusal_number
 read_once text number edit taken (reads L z t) =
     let e = line_edit text L in
-    (z ∙ sym (accepted L) ∙ ap (λ x. refusal_number (edit_answer x)) e, e, takes_once t (length_takes text))
+    (z ∙ sym (accepted L) ∙ ap (λ x. answer_number (edit_answer x)) e, e, takes_once t (length_takes text))
 read_once text number edit taken (refuses none z r t) = go (edit_line text)
   where
-    go : EditLine text (edit_of text) ⊎ NoLine text (edit_of text) → (number ≡ refusal_number (edit_answer (edit_of text))) × (edit ≡ edit_of text) × (taken ≡ (read_edit text).taken)
+    go : EditLine text (edit_of text) ⊎ NoLine text (edit_of text) → (number ≡ answer_number (edit_answer (edit_of text))) × (edit ≡ edit_of text) × (taken ≡ (read_edit text).taken)
     go (inl L) = absurd (none _ L)
-    go (inr N) = (z ∙ sym (ap (λ e. refusal_number (edit_answer e)) N.refused), r ∙ sym N.refused, takes_once t (length_takes text))
+    go (inr N) = (z ∙ sym (ap (λ e. answer_number (edit_answer e)) N.refused), r ∙ sym N.refused, takes_once t (length_takes text))
