@@ -1,5 +1,5 @@
 -- What draw answers, from what the check of the sheet finds. Assumes nothing.
-use Rattle.std.specs.Prelude.{Ok}
+use Rattle.std.specs.Prelude.{Result, Ok, Err}
 use Prim.Native.Nat.{ℕ, ◌<◌, ◌≤◌}
 use mathlib.Core.Path.{◌≡◌, refl, sym, ap, ◌∙◌}
 use mathlib.Core.Bool.{Bool, true, false}
@@ -7,33 +7,26 @@ use native.Mathlib.Omega.{arith}
 use Rattle.sheet.specs.declared.Sheet.{Sheet}
 use Rattle.sheet.specs.declared.Findings.{Findings}
 use Rattle.answers.specs.declared.Refusal.TheVariants.{NotSound}
-use Rattle.answers.specs.Answers.{Answer, refusal_number}
-use Rattle.answers.specs.Refusals.{first, is_accepted}
+use Rattle.answers.specs.declared.Refusal.{Refusal}
+use Rattle.answers.specs.Refusals.{first, answering}
 use Rattle.sheet.specs.Darts.{Sized}
 use Rattle.sheet.specs.Sound.{Sound}
 use Rattle.sheet.specs.Check.{sound, row_levels, face_table, face_count}
-use Rattle.sheet.specs.Inner.{accepted, findings_of}
-use Rattle.sheet.proofs.Clauses.{findings_answer}
+use Rattle.sheet.specs.Inner as findings
+use Rattle.sheet.specs.Inner.{findings_of}
+use Rattle.sheet.proofs.Found.{found_is}
 use Rattle.soundness.proofs.Law.{sound_law}
 use Rattle.drawing.specs.declared.Drawing.{Drawing}
-use Rattle.drawing.specs.declared.Drawn.{Drawn}
-use Rattle.drawing.specs.Draw.{drawing_of, zero_drawing, draw_answer, draw_call}
-
-abbrev drawn : Answer → Drawing → Drawn
-drawn a d = record { answer = a; drawing = d }
+use Rattle.drawing.specs.Draw.{drawing_of, draw_answer, draw_call}
 
 module _ (s : Sheet) where
-  pub not_sound : sound s ≡ false → (d : Drawing) → d ≡ zero_drawing → drawn NotSound d ≡ draw_call s
-  unfolding draw_call draw_answer first is_accepted refusal_number
-  not_sound t d e = rw (t, e) refl
+  pub not_sound : sound s ≡ false → Err NotSound ≡ draw_call s
+  unfolding draw_answer first answering
+  not_sound t = rw t refl
 
-  pub is_sound : sound s ≡ true → (d : Drawing) → d ≡ drawing_of s → drawn Ok tt d ≡ draw_call s
-  unfolding draw_call draw_answer first is_accepted refusal_number
+  pub is_sound : sound s ≡ true → (d : Drawing) → d ≡ drawing_of s → Ok d ≡ draw_call s
+  unfolding draw_answer first answering
   is_sound t d e = rw (t, e) refl
-
-  module _ (f : Findings) (fe : f ≡ findings_of s) where
-    pub answered : (r b : Bool) → r ≡ is_accepted f.answer → r ≡ b → sound s ≡ b
-    answered r b e q = sym (findings_answer s) ∙ ap (λ (g : Findings). is_accepted g.answer) (sym fe) ∙ sym e ∙ q
 
 -- what the check found of a sheet that it accepted
 pub record Found (s : Sheet) (f : Findings) : Type 0 where
@@ -43,11 +36,10 @@ pub record Found (s : Sheet) (f : Findings) : Type 0 where
   pub faces_are : f.faces ≡ (face_table s).orbit
   pub count_is : f.count ≡ face_count s
 
-pub found : {s : Sheet} {f : Findings} {r : Bool} → Sized s → f ≡ findings_of s → r ≡ is_accepted f.answer → r ≡ true → Found s f
-unfolding findings_of accepted
-found {s} z fe e q =
-    let t : sound s ≡ true = answered s _ fe _ _ e q in
-    let f_is : _ ≡ accepted s = fe ∙ rw t refl in
+pub found : {s : Sheet} {f : Findings} {r : Result Findings Refusal} → Sized s → r ≡ findings_of s → r ≡ Ok f → Found s f
+unfolding findings.found
+found {s} z e q =
+    let (t, f_is) = found_is s _ e _ q in
     record {
       is_so = t;
       has_sound = (sound_law s z).0 t;

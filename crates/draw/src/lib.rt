@@ -4,12 +4,12 @@
 ghost use Rattle.std.specs.Prelude.{◌≡◌, ◌≤◌, ◌<◌, min, max, get_or};
 ghost use Rattle.clauses.specs.Inner.{Ends};
 ghost use Rattle.sheet.specs.Sound.{Sound};
-ghost use Rattle.drawing.specs.Draw.{no_vertex_segment, no_edge_segment, zero_drawing, draw_call};
+ghost use Rattle.drawing.specs.Draw.{no_vertex_segment, no_edge_segment, zero_drawing, draw_call, returned};
 ghost use Rattle.draw.specs.Inner.{table, leading_faces, column_beside, AtLeast, edge_from, unreached_from, segment_from, widened_by, drawing_from};
 
-use answers::{Answer, is_accepted};
+use answers::Refusal;
 use counting::wide;
-use drawing::{Drawing, Drawn, EdgeSegment, VertexSegment};
+use drawing::{Drawing, EdgeSegment, VertexSegment};
 use sheet::Sheet;
 
 // Stands for the first column of a vertex of which no edge was seen.
@@ -197,30 +197,28 @@ fn zeros() -> Drawing
     }
 }
 
-// Draws a sheet. Refused, 9, the record is of zeros.
-pub fn draw(s: Sheet) -> Drawn
+// Draws a sheet; it refuses 9 alone.
+pub fn draw(s: Sheet) -> Result<Drawing, Refusal>
     ensures { result ≡ draw_call s }
 {
-    let found = sheet::examine(s);
-    let answer = found.answer;
-    if !is_accepted(answer) {
-        return Drawn {
-            answer: Answer::NotSound,
-            drawing: zeros(),
-        };
-    }
-    let rows = found.rows;
-    let faces = found.faces;
-    let from = leading_faces(s.edges, 0, &faces);
-    let to = leading_faces(s.edges, 1, &faces);
+    let found = sheet::examine(s)?;
+    let from = leading_faces(s.edges, 0, &found.faces);
+    let to = leading_faces(s.edges, 1, &found.faces);
     let levels = digraph::levels(found.count, s.edges, &from, &to);
     let level = levels.level;
     let last = level[wide(to[0])];
     let columns = columns_beside(s.edges, &level, &from, last, 0);
     let ends = columns_beside(s.edges, &level, &to, last, 1);
-    let drawing = compose(s, &rows, &columns, &ends);
-    Drawn {
-        answer: Answer::Accepted,
-        drawing,
+    Ok(compose(s, &found.rows, &columns, &ends))
+}
+
+// What draw returns beside its answer: refused, a record of zeros.
+#[tactic(auto, unfolding(drawing::specs::Draw::returned))]
+pub fn returned(answer: Result<Drawing, Refusal>) -> Drawing
+    ensures { result ≡ returned answer }
+{
+    match answer {
+        Ok(drawing) => drawing,
+        Err(_) => zeros(),
     }
 }
