@@ -4,14 +4,12 @@
 ghost use Rattle.std.specs.Prelude.{◌≡◌, ◌+◌, ◌≤◌, leb, length};
 ghost use Rattle.std.proofs.lemmas.List.Edits.{sets};
 ghost use Rattle.counting.specs.Below.{join_below};
-ghost use Rattle.drawing.specs.Draw.{draw_call};
 ghost use Rattle.drawing.specs.Write.{drawing_text, write_drawing, buffer_after_drawing};
 ghost use Rattle.writedrawing.specs.Inner.{vertex_values, edge_values, vertex_text, edge_text};
 
-use answers::{Answer, is_accepted};
-use drawing::{Drawing, Drawn, EdgeSegment, VertexSegment};
+use answers::Refusal;
+use drawing::{Drawing, EdgeSegment, VertexSegment};
 use sheet::Sheet;
-use writesheet::Written;
 
 // The numbers of a vertex's line: its row, its first and its last column.
 fn vertex_values(v: VertexSegment) -> [u16; 3]
@@ -124,36 +122,13 @@ fn put_drawing(out: &mut [u8], n: usize, m: usize, d: Drawing) -> usize
     put_edges(out, edges, m, d)
 }
 
-// Writes the text of what draw answered to the front of the buffer. Refused, 9 and then 17, the buffer is untouched.
-fn write_drawn(s: Sheet, drawn: Drawn, out: &mut [u8]) -> Written
-    requires { drawn ≡ draw_call s }
+// Write drawing: the text of a sheet's drawing, at the front of the buffer. Refused, 9 and then 17, the buffer is untouched.
+pub fn write_drawing(s: Sheet, out: &mut [u8]) -> Result<usize, Refusal>
     ensures { (result ≡ write_drawing s out.old) × (out.new ≡ buffer_after_drawing s out.old) }
 {
-    let answer = drawn.answer;
-    if !is_accepted(answer) {
-        return Written {
-            answer: Answer::NotSound,
-            count: 0,
-        };
-    }
-    let drawing = drawn.drawing;
+    let drawing = draw::draw(s)?;
     if !fits(out.len(), s.vertices, s.edges, drawing) {
-        return Written {
-            answer: Answer::BufferTooShort,
-            count: 0,
-        };
+        return Err(Refusal::BufferTooShort);
     }
-    let count = put_drawing(out, s.vertices, s.edges, drawing);
-    Written {
-        answer: Answer::Accepted,
-        count,
-    }
-}
-
-// Write drawing: the text of a sheet's drawing, at the front of the buffer.
-pub fn write_drawing(s: Sheet, out: &mut [u8]) -> Written
-    ensures { (result ≡ write_drawing s out.old) × (out.new ≡ buffer_after_drawing s out.old) }
-{
-    let drawn = draw::draw(s);
-    write_drawn(s, drawn, out)
+    Ok(put_drawing(out, s.vertices, s.edges, drawing))
 }
