@@ -1,5 +1,5 @@
 -- What is printed, case by case, and how it stands in the buffer. Assumes nothing.
-use Rattle.std.specs.Prelude.{Ok}
+use Rattle.std.specs.Prelude.{Result, Ok, Err}
 use Prim.Native.Nat.{ℕ, ◌+◌, ◌≤◌, ◌<◌}
 use mathlib.Core.Path.{◌≡◌, refl, sym, ap, ◌∙◌}
 use mathlib.Core.Bool.{true, false}
@@ -12,14 +12,11 @@ use lib.ListN.{length}
 use lib.Seq.{sets, sets-eq}
 use Rattle.counting.proofs.Iterate.{by_bool}
 use Rattle.answers.specs.declared.Refusal.TheVariants.{BufferTooShort, InputTooLong}
-use Rattle.answers.specs.Answers.{refusal_number}
-use Rattle.answers.specs.Refusals.{first, is_accepted}
-use Rattle.sheet.specs.declared.Sheet.{Sheet}
-use Rattle.sheet.specs.Fresh.{fresh_sheet}
+use Rattle.answers.specs.declared.Refusal.{Refusal}
+use Rattle.answers.specs.Refusals.{first, answering}
 use Rattle.load.specs.declared.Loaded.{Loaded}
 use Rattle.load.specs.Load.{load}
-use Rattle.writesheet.specs.declared.Written.{Written}
-use Rattle.writesheet.specs.Write.{written, buffer_after}
+use Rattle.writesheet.specs.Write.{buffer_after}
 use Rattle.preservation.specs.Laws.{Whole}
 use Rattle.program.specs.Program.{refused_line, loaded_output, plate_output, longest_output, plate_answer, write_output, buffer_after_output}
 use Rattle.program.proofs.Bound.{load_whole, output_bound}
@@ -36,41 +33,38 @@ module _ (input : List ℕ) where
   too_long h = rw (lt-leb (length input) 16384 h) refl
 
   -- load answered
-  module _ (h : length input ≤ 16384) (fresh : Sheet) (ef : fresh ≡ fresh_sheet) (l : Loaded) (el : l ≡ load input fresh) where
-    is_loaded : load input fresh_sheet ≡ l
-    is_loaded = sym (rw ef at el)
-
-    pub load_refused : is_accepted l.answer ≡ false → plate_output input ≡ refused_line l.answer
+  module _ (h : length input ≤ 16384) (p : Result Loaded Refusal) (e : p ≡ load input) where
+    pub load_refused : (r : Refusal) → p ≡ Err r → plate_output input ≡ refused_line r
     unfolding plate_output loaded_output
-    load_refused t = rw (le-leb (length input) 16384 h, is_loaded, t) refl
+    load_refused r q = rw (le-leb (length input) 16384 h, sym e ∙ q) refl
 
-    module _ (t : is_accepted l.answer ≡ true) where
+    module _ (l : Loaded) (q : p ≡ Ok l) where
       pub loaded_whole : Whole l.sheet
-      loaded_whole = rw is_loaded at (load_whole input (rw is_loaded t))
+      loaded_whole = load_whole input l (sym e ∙ q)
 
       pub load_accepted : plate_output input ≡ lines input l.sheet l.taken
       unfolding plate_output loaded_output
-      load_accepted = rw (le-leb (length input) 16384 h, is_loaded, t) refl
+      load_accepted = rw (le-leb (length input) 16384 h, sym e ∙ q) refl
 
 -- the answer w to a call that left `out` of the buffer
-abbrev pub Answered : List ℕ → List ℕ → Written → List ℕ → Type 0
+abbrev pub Answered : List ℕ → List ℕ → Result ℕ Refusal → List ℕ → Type 0
 Answered input buffer w out = (w ≡ write_output input buffer) × (out ≡ buffer_after_output input buffer)
 
 module _ (input buffer : List ℕ) where
-  pub short_buffer : length buffer < longest_output → Answered input buffer (record { answer = BufferTooShort; count = 0 }) buffer
-  unfolding plate_answer written buffer_after first is_accepted refusal_number
+  pub short_buffer : length buffer < longest_output → Answered input buffer (Err BufferTooShort) buffer
+  unfolding plate_answer buffer_after first answering
   short_buffer h = rw (lt-ltb (length buffer) longest_output h) (refl, refl)
 
   pub output_put : longest_output ≤ length buffer → (count : ℕ) → count ≡ length (plate_output input) → (out : List ℕ) → out ≡ sets buffer 0 (plate_output input)
-      → Answered input buffer (record { answer = Ok tt; count = count }) out
-  unfolding plate_answer written buffer_after first is_accepted refusal_number
+      → Answered input buffer (Ok count) out
+  unfolding plate_answer buffer_after first answering
   output_put h count n out q =
       rw (le-ltb (length buffer) longest_output h)
-      (ap (λ k. record { answer = Ok tt; count = k }) n, q ∙ sets-eq (plate_output input) buffer 0 (omega (arith, output_bound input)) ∙ rw zero-add refl)
+      (ap Ok n, q ∙ sets-eq (plate_output input) buffer 0 (omega (arith, output_bound input)) ∙ rw zero-add refl)
 
   -- the output lies within the buffer
-  pub count_fits : (w : Written) → w ≡ write_output input buffer → w.count ≤ length buffer
-  unfolding plate_answer written first is_accepted refusal_number
-  count_fits w e = by_bool (ltb (length buffer) longest_output)
-      (λ t. let z : w.count ≡ 0 = ap (λ (x : Written). x.count) (rw t at e) in omega arith)
-      (λ t. let z : w.count ≡ length (plate_output input) = ap (λ (x : Written). x.count) (rw t at e) in omega (arith, output_bound input, ltb-false (length buffer) longest_output t))
+  pub count_fits : (count : ℕ) → Ok count ≡ write_output input buffer → count ≤ length buffer
+  unfolding plate_answer first answering
+  count_fits count e = by_bool (ltb (length buffer) longest_output)
+      (λ t. cc (rw t at e))
+      (λ t. let z : count ≡ length (plate_output input) = cc (rw t at e) in omega (arith, output_bound input, ltb-false (length buffer) longest_output t))

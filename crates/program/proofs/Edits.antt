@@ -10,7 +10,7 @@ use lib.Seq.{drop-drop}
 use Rattle.counting.proofs.Iterate.{by_bool}
 use Rattle.sheet.specs.declared.Sheet.{Sheet}
 use Rattle.edit.specs.Lines.{edit_of, line_length}
-use Rattle.edit.specs.Calls.{apply}
+use Rattle.edit.specs.Calls.{apply, sheet_after}
 use Rattle.drawing.specs.Write.{drawing_text_of}
 use Rattle.program.specs.Program.{edit_output, edits_output}
 use Rattle.program.specs.Laws.{Printed, EditsPrinted}
@@ -32,7 +32,7 @@ line_shorter text h = omega (arith, length-drop (line_length text) text, line_so
 
 -- one line, with a bound that allows it
 pub one_line : (r : ℕ) (s : Sheet) (text : List ℕ) → 0 < length text
-    → edits_output (suc r) s text ≡ edit_output (apply s (edit_of text)) ++ edits_output r (apply s (edit_of text)).sheet (drop (line_length text) text)
+    → edits_output (suc r) s text ≡ edit_output (apply s (edit_of text)) ++ edits_output r (sheet_after s (apply s (edit_of text))) (drop (line_length text) text)
 unfolding edits_output
 one_line r s text h = rw (lt-ltb 0 (length text) h) refl
 
@@ -50,7 +50,7 @@ printed : (r : ℕ) (s : Sheet) (text : List ℕ) → length text ≤ r → Prin
 printed zero s [] l = rw (no_line zero s) at_end
 printed (suc r) s [] l = rw (no_line (suc r) s) at_end
 printed zero s (b ∷ text) l = absurd (omega arith)
-printed (suc r) s (b ∷ text) l = rw (one_line r s (b ∷ text) (omega arith)) (edit_line {text = b ∷ text} (omega arith) (printed r (apply s (edit_of (b ∷ text))).sheet (drop (line_length (b ∷ text)) (b ∷ text)) (omega (arith, line_shorter (b ∷ text) (omega arith)))))
+printed (suc r) s (b ∷ text) l = rw (one_line r s (b ∷ text) (omega arith)) (edit_line {text = b ∷ text} (omega arith) (printed r (sheet_after s (apply s (edit_of (b ∷ text)))) (drop (line_length (b ∷ text)) (b ∷ text)) (omega (arith, line_shorter (b ∷ text) (omega arith)))))
 
 pub edits_printed : EditsPrinted
 edits_printed s text output r l = (λ p. is_output p r l, λ e. rw e (printed r s text l))
@@ -65,7 +65,7 @@ module _ (input : List ℕ) (at : ℕ) (s : Sheet) where
   lines_over h = rw (drop_of_length-le input h) (no_line (length input) s)
 
   pub next_line : at < length input → let e = apply s (edit_of (drop at input)) in
-      edits_output (length input) s (drop at input) ≡ edit_output e ++ edits_output (length input) e.sheet (drop (at + line_length (drop at input)) input)
+      edits_output (length input) s (drop at input) ≡ edit_output e ++ edits_output (length input) (sheet_after s e) (drop (at + line_length (drop at input)) input)
   next_line h =
       let text = drop at input in
       let e = apply s (edit_of text) in
@@ -73,4 +73,4 @@ module _ (input : List ℕ) (at : ℕ) (s : Sheet) where
       let later = drop (line_length text) text in
       bounds s text (length input) (suc (length input)) (omega (arith, length-drop at input)) (omega (arith, length-drop at input))
       ∙ one_line (length input) s text some
-      ∙ ap (λ (t : List ℕ). edit_output e ++ edits_output (length input) e.sheet t) (drop-drop (line_length text) at input)
+      ∙ ap (λ (t : List ℕ). edit_output e ++ edits_output (length input) (sheet_after s e) t) (drop-drop (line_length text) at input)

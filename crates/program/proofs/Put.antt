@@ -1,5 +1,5 @@
 -- What is put into the buffer. Assumes nothing.
-use Rattle.std.specs.Prelude.{Ok}
+use Rattle.std.specs.Prelude.{Result, Ok}
 use Prim.Native.Nat.{ℕ, ◌+◌, ◌-◌, ◌≤◌}
 use mathlib.Core.Path.{◌≡◌, refl, sym, ap, ◌∙◌}
 use mathlib.Core.List.{List, [], ◌∷◌, ◌++◌, append-nil, append_assoc}
@@ -9,19 +9,18 @@ use lib.ListN.{length, take, drop, length-drop, drop_of_length-le}
 use lib.Seq.{sets, sets-eq, take_all, drop-drop}
 use Rattle.text.specs.Bytes.{bytes}
 use Rattle.text.specs.Written.{line}
-use Rattle.answers.specs.Answers.{Answer}
+use Rattle.answers.specs.declared.Refusal.{Refusal}
 use Rattle.answers.specs.Answers.{refusal_number}
 use Rattle.sheet.specs.declared.Sheet.{Sheet}
-use Rattle.writesheet.specs.declared.Written.{Written}
 use Rattle.writesheet.proofs.Outcomes.{Outcome, text_put}
 use Rattle.preservation.specs.Laws.{Whole}
 use Rattle.drawing.specs.Write.{drawing_text_of, write_drawing, buffer_after_drawing}
 use Rattle.program.specs.Program.{refused_line}
 use Rattle.program.proofs.Bound.{whole_sound}
 
-pub refused_line_law : {number : ℕ} (a : Answer) → number ≡ refusal_number a → line (bytes "refused=") (number ∷ []) ≡ refused_line a
+pub refused_line_law : {number : ℕ} (r : Refusal) → number ≡ refusal_number r → line (bytes "refused=") (number ∷ []) ≡ refused_line r
 unfolding refused_line
-refused_line_law a e = rw e refl
+refused_line_law r e = rw e refl
 
 -- what lies from a place of a list on, lent as a part
 pub rest_part : (xs : List ℕ) (at : ℕ) → take (length xs - at) (drop at xs) ≡ drop at xs
@@ -40,11 +39,11 @@ part_put xs text at h =
 
 -- a sheet's drawing is put from a place of the buffer on
 module _ (s : Sheet) (w : Whole s) (out : List ℕ) (at : ℕ) (room : at + length (drawing_text_of s) ≤ length out) where
-  drawn : Outcome s (drawing_text_of s) (drop at out) (record { answer = Ok tt; count = length (drawing_text_of s) }) (sets (drop at out) 0 (drawing_text_of s))
+  drawn : Outcome s (drawing_text_of s) (drop at out) (Ok (length (drawing_text_of s))) (sets (drop at out) 0 (drawing_text_of s))
   drawn = text_put s (drawing_text_of s) (drop at out) (whole_sound w) (omega (arith, length-drop at out)) (length (drawing_text_of s)) refl (sets (drop at out) 0 (drawing_text_of s)) refl
 
-  pub drawing_count : (r : Written) → r ≡ write_drawing s (take (length out - at) (drop at out)) → r.count ≡ length (drawing_text_of s)
-  drawing_count r e = ap (λ (x : Written). x.count) (rw (rest_part out at) at e ∙ sym drawn.0)
+  pub drawing_count : (r : Result ℕ Refusal) → r ≡ write_drawing s (take (length out - at) (drop at out)) → r ≡ Ok (length (drawing_text_of s))
+  drawing_count r e = rw (rest_part out at) at e ∙ sym drawn.0
 
   pub drawing_left : (after : List ℕ) → after ≡ buffer_after_drawing s (take (length out - at) (drop at out))
       → take at out ++ (after ++ drop (length out - at) (drop at out)) ≡ sets out at (drawing_text_of s)

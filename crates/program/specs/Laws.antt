@@ -2,7 +2,7 @@
 use Rattle.std.specs.Prelude.{ℕ, ◌≤◌, ◌<◌, ◌≡◌, ◌↔◌, List, [], ◌++◌, length, drop}
 use Rattle.sheet.specs.declared.Sheet.{Sheet}
 use Rattle.edit.specs.Lines.{edit_of, line_length}
-use Rattle.edit.specs.Calls.{apply}
+use Rattle.edit.specs.Calls.{apply, sheet_after}
 use Rattle.drawing.specs.Write.{drawing_text_of}
 use Rattle.program.specs.Program.{edit_output, edits_output, plate_output, longest_output}
 
@@ -11,7 +11,7 @@ use Rattle.program.specs.Program.{edit_output, edits_output, plate_output, longe
 pub data Printed : Sheet → List ℕ → List ℕ → Type 0 where
   at_end : {s : Sheet} → Printed s [] (drawing_text_of s)
   edit_line : {s : Sheet} {text later : List ℕ} → 0 < length text
-      → Printed (apply s (edit_of text)).sheet (drop (line_length text) text) later → Printed s text (edit_output (apply s (edit_of text)) ++ later)
+      → Printed (sheet_after s (apply s (edit_of text))) (drop (line_length text) text) later → Printed s text (edit_output (apply s (edit_of text)) ++ later)
 
 -- The bound r on the number of edit lines is never what stops them: a bound of the text's length is enough.
 abbrev pub EditsPrinted : Type 0

@@ -1,46 +1,44 @@
 -- The program `plate`: the whole output as a function of the whole input, and that output in a lent buffer.
-use Rattle.std.specs.Prelude.{ℕ, zero, suc, ◌+◌, ◌*◌, List, [], ◌∷◌, ◌++◌, ltb, leb, length, drop}
+use Rattle.std.specs.Prelude.{ℕ, zero, suc, ◌+◌, ◌*◌, List, [], ◌∷◌, ◌++◌, ltb, leb, length, drop, Result, Ok, Err}
 use Rattle.text.specs.Bytes.{bytes}
 use Rattle.counting.specs.Choice.{pick}
 use Rattle.text.specs.Written.{line}
 use Rattle.sheet.specs.declared.Sheet.{Sheet}
+use Rattle.answers.specs.declared.Refusal.{Refusal}
 use Rattle.answers.specs.declared.Refusal.TheVariants.{BufferTooShort, InputTooLong}
 use Rattle.answers.specs.Answers.{Answer, refusal_number}
-use Rattle.answers.specs.Refusals.{first, ◌if◌, is_accepted}
-use Rattle.sheet.specs.Fresh.{fresh_sheet}
+use Rattle.answers.specs.Refusals.{first, ◌if◌}
 use Rattle.load.specs.declared.Loaded.{Loaded}
 use Rattle.load.specs.Load.{load}
-use Rattle.writesheet.specs.declared.Written.{Written}
 use Rattle.writesheet.specs.Write.{written, buffer_after}
-use Rattle.edit.specs.declared.Edited.{Edited}
 use Rattle.edit.specs.Lines.{edit_of, line_length}
-use Rattle.edit.specs.Calls.{apply}
+use Rattle.edit.specs.Calls.{apply, sheet_after}
 use Rattle.drawing.specs.Write.{drawing_text_of}
 
 -- a line `refused=` and number
-unfoldable pub refused_line : Answer → List ℕ
-refused_line a = line (bytes "refused=") (refusal_number a ∷ [])
+unfoldable pub refused_line : Refusal → List ℕ
+refused_line r = line (bytes "refused=") (refusal_number r ∷ [])
 
 -- one such line for a refused edit
-unfoldable pub edit_output : Edited → List ℕ
-edit_output e = pick (is_accepted e.answer) (λ _. []) (λ _. refused_line e.answer)
+unfoldable pub edit_output : Result Sheet Refusal → List ℕ
+edit_output (Ok s) = []
+edit_output (Err r) = refused_line r
 
 -- edit lines to the end of the text, at most r of them: a line for each refused edit, then the drawing
 unfoldable pub edits_output : ℕ → Sheet → List ℕ → List ℕ
 edits_output zero s text = drawing_text_of s
 edits_output (suc r) s text = pick (ltb 0 (length text))
-    (λ _. let e = apply s (edit_of text) in edit_output e ++ edits_output r e.sheet (drop (line_length text) text))
+    (λ _. let e = apply s (edit_of text) in edit_output e ++ edits_output r (sheet_after s e) (drop (line_length text) text))
     (λ _. drawing_text_of s)
 
 -- after load: its refusal only, or the edits
-unfoldable pub loaded_output : List ℕ → Loaded → List ℕ
-loaded_output input l = pick (is_accepted l.answer)
-    (λ _. edits_output (length input) l.sheet (drop l.taken input))
-    (λ _. refused_line l.answer)
+unfoldable pub loaded_output : List ℕ → Result Loaded Refusal → List ℕ
+loaded_output input (Ok l) = edits_output (length input) l.sheet (drop l.taken input)
+loaded_output input (Err r) = refused_line r
 
 -- More than 16,384 bytes: it prints `refused=18` only.
 unfoldable pub plate_output : List ℕ → List ℕ
-plate_output input = pick (leb (length input) 16384) (λ _. loaded_output input (load input fresh_sheet)) (λ _. refused_line InputTooLong)
+plate_output input = pick (leb (length input) 16384) (λ _. loaded_output input (load input)) (λ _. refused_line InputTooLong)
 
 -- No output is longer: at most 11 bytes for each byte of the input (an edit line has at least one, its refusal at most 11), and a drawing of at most 6,807.
 abbrev pub longest_output : ℕ
@@ -50,7 +48,7 @@ longest_output = 11 * 16384 + 6807
 unfoldable pub plate_answer : List ℕ → Answer
 plate_answer buffer = first (BufferTooShort if ltb (length buffer) longest_output ∷ [])
 
-abbrev pub write_output : List ℕ → List ℕ → Written
+abbrev pub write_output : List ℕ → List ℕ → Result ℕ Refusal
 write_output input buffer = written (plate_answer buffer) (plate_output input)
 
 abbrev pub buffer_after_output : List ℕ → List ℕ → List ℕ

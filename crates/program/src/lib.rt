@@ -7,17 +7,15 @@ ghost use Rattle.preservation.specs.Laws.{Whole};
 ghost use Rattle.drawing.specs.Write.{drawing_text_of};
 ghost use Rattle.program.specs.Program.{refused_line, edits_output, plate_output, longest_output, write_output, buffer_after_output};
 
-use answers::{Answer, is_accepted};
+use answers::Refusal;
 use sheet::Sheet;
-use writesheet::Written;
 
 // Puts a line `refused=` and number, and returns the place after it.
-fn put_refused(out: &mut [u8], at: usize, answer: Answer) -> usize
-    requires { at + length (refused_line answer) ≤ length out.old }
-    ensures { (result ≡ at + length (refused_line answer)) × (out.new ≡ sets out.old at (refused_line answer)) }
+fn put_refused(out: &mut [u8], at: usize, refusal: Refusal) -> usize
+    requires { at + length (refused_line refusal) ≤ length out.old }
+    ensures { (result ≡ at + length (refused_line refusal)) × (out.new ≡ sets out.old at (refused_line refusal)) }
 {
-    let number = answers::refusal_number(answer);
-    buffer::put_line(out, at, b"refused=", &[number], 1)
+    buffer::put_line(out, at, b"refused=", &[refusal.number()], 1)
 }
 
 // Puts the drawing of a sound sheet, and returns the place after it.
@@ -25,8 +23,7 @@ fn put_drawing(out: &mut [u8], at: usize, s: Sheet) -> usize
     requires { Whole s × (at + length (drawing_text_of s) ≤ length out.old) }
     ensures { (result ≡ at + length (drawing_text_of s)) × (out.new ≡ sets out.old at (drawing_text_of s)) }
 {
-    let written = writedrawing::write_drawing(s, &mut out[at..]);
-    at + written.count
+    at + writedrawing::write_drawing(s, &mut out[at..]).unwrap_or(0)
 }
 
 // Edit lines from a place of the input to its end: puts a line for each refused edit, then the drawing.
@@ -39,14 +36,10 @@ fn put_edits(out: &mut [u8], input: &[u8], start: usize, s: Sheet) -> usize
     let mut end = 0;
     while at < input.len() {
         let read = edit::read_edit(&input[at..]);
-        let change = read.edit;
-        let edited = apply::apply(sheet, change);
-        let answer = edited.answer;
-        if !is_accepted(answer) {
-            let next = put_refused(out, end, answer);
-            end = next;
+        match apply::apply(sheet, read.edit) {
+            Ok(made) => sheet = made,
+            Err(refusal) => end = put_refused(out, end, refusal),
         }
-        sheet = edited.sheet;
         at += read.taken;
     }
     put_drawing(out, end, sheet)
@@ -58,33 +51,23 @@ fn put_output(out: &mut [u8], input: &[u8]) -> usize
     ensures { (result ≡ length (plate_output input.now)) × (out.new ≡ sets out.old 0 (plate_output input.now)) }
 {
     if 16384 < input.len() {
-        return put_refused(out, 0, Answer::InputTooLong);
+        return put_refused(out, 0, Refusal::InputTooLong);
     }
-    let loaded = load::load(input, sheet::fresh());
-    let outcome = loaded.answer;
-    if !is_accepted(outcome) {
-        return put_refused(out, 0, outcome);
+    match load::load(input) {
+        Ok(loaded) => put_edits(out, input, loaded.taken, loaded.sheet),
+        Err(refusal) => put_refused(out, 0, refusal),
     }
-    let sheet = loaded.sheet;
-    put_edits(out, input, loaded.taken, sheet)
 }
 
 // No output has more bytes.
 const LONGEST: usize = 187031;
 
 // The output of `plate` for an input, at the front of the buffer. Refused 17, the buffer is untouched.
-pub fn plate(input: &[u8], buffer: &mut [u8]) -> Written
+pub fn plate(input: &[u8], buffer: &mut [u8]) -> Result<usize, Refusal>
     ensures { (result ≡ write_output input.now buffer.old) × (buffer.new ≡ buffer_after_output input.now buffer.old) }
 {
     if buffer.len() < LONGEST {
-        return Written {
-            answer: Answer::BufferTooShort,
-            count: 0,
-        };
+        return Err(Refusal::BufferTooShort);
     }
-    let count = put_output(buffer, input);
-    Written {
-        answer: Answer::Accepted,
-        count,
-    }
+    Ok(put_output(buffer, input))
 }

@@ -6,4 +6,4 @@ returns-then-buffer-lt-LONGEST c = short_buffer _ _ c.if-buffer-lt-LONGEST.true
 
 pub returns : goal.returns
 returns c =
-    output_put _ _ c.if-buffer-lt-LONGEST.false _ c.put_output-count.ensures.0 _ c.put_output-count.ensures.1
+    output_put _ _ c.if-buffer-lt-LONGEST.false _ c.put_output.ensures.0 _ c.put_output.ensures.1
