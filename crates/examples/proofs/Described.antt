@@ -1,4 +1,5 @@
 -- Load judges the sheet that the lines describe.
+use Rattle.std.specs.Prelude.{Err}
 use Prim.Native.Nat.{ℕ, zero, suc, ◌+◌, ◌≤◌}
 use mathlib.Core.Bool.{Bool, true, false, not, ◌&&◌}
 use mathlib.Core.List.{List, [], ◌∷◌}
@@ -10,53 +11,53 @@ use Rattle.text.specs.Reading.{Listed, line_at}
 use Rattle.text.specs.Reading.Listed.{listed, unlisted}
 use Rattle.text.specs.Shapes.{with_one, with_two, with_some}
 use Rattle.answers.specs.declared.Refusal.TheVariants.{BadLayout, CountOutOfLimits, BadEdge, BadRotation}
-use Rattle.answers.specs.Answers.{Answer, refusal_number}
+use Rattle.answers.specs.declared.Refusal.{Refusal}
+use Rattle.answers.specs.Answers.{refusal_number}
 use Rattle.sheet.specs.declared.Sheet.{Sheet}
 use Rattle.load.specs.Rings.{is_rotation, link_ring}
 use Rattle.load.specs.Load.{Parsed, empty_sheet, with_edge, with_nexts, ring_lines, edge_lines, with_count, parse}
-use Rattle.load.specs.Load.Parsed.{refused}
 use Rattle.examples.specs.Described.{rings_from, edges_from, described, Read, DescribedLaw}
 use Rattle.examples.specs.Described.Read.{last_line, refused_line}
 
 -- the refusals of a line
-record Refusal (a : Answer) : Type 0 where
-  least : 1 ≤ refusal_number a
-  most : refusal_number a ≤ 4
+record OfLine (r : Refusal) : Type 0 where
+  least : 1 ≤ refusal_number r
+  most : refusal_number r ≤ 4
 
-layout : Refusal BadLayout
+layout : OfLine BadLayout
 unfolding refusal_number
 layout = record { least = omega arith; most = omega arith }
 
-limits : Refusal CountOutOfLimits
+limits : OfLine CountOutOfLimits
 unfolding refusal_number
 limits = record { least = omega arith; most = omega arith }
 
-edge : Refusal BadEdge
+edge : OfLine BadEdge
 unfolding refusal_number
 edge = record { least = omega arith; most = omega arith }
 
-rotation : Refusal BadRotation
+rotation : OfLine BadRotation
 unfolding refusal_number
 rotation = record { least = omega arith; most = omega arith }
 
 -- a line that is refused, or read on from
-line_refused : {s : Sheet} {a : Answer} → Refusal a → Read s (refused a)
-line_refused {a} r = refused_line a r.least r.most
+line_refused : {s : Sheet} {r : Refusal} → OfLine r → Read s (Err r)
+line_refused {r} o = refused_line r o.least o.most
 
-read_if : {s : Sheet} {p : Parsed} {a : Answer} (b : Bool) → Refusal a → Read s p → Read s (pick b (λ _. p) (λ _. refused a))
+read_if : {s : Sheet} {p : Parsed} {r : Refusal} (b : Bool) → OfLine r → Read s p → Read s (pick b (λ _. p) (λ _. Err r))
 read_if true r h = h
 read_if false r h = line_refused r
 
 -- a line of some numbers, of two, of one
 module _ (s : Sheet) where
   some : (l : Listed) (f : List ℕ → ℕ → Sheet) (g : List ℕ → ℕ → Parsed) → ((ws : List ℕ) (next : ℕ) → Read (f ws next) (g ws next))
-      → Read (with_some l s f) (with_some l (refused BadLayout) g)
+      → Read (with_some l s f) (with_some l (Err BadLayout) g)
   unfolding with_some
   some unlisted f g h = line_refused layout
   some (listed ws next) f g h = h ws next
 
   two : (l : Listed) (f : ℕ → ℕ → ℕ → Sheet) (g : ℕ → ℕ → ℕ → Parsed) → ((a b next : ℕ) → Read (f a b next) (g a b next))
-      → Read (with_two l s f) (with_two l (refused BadLayout) g)
+      → Read (with_two l s f) (with_two l (Err BadLayout) g)
   unfolding with_two
   two unlisted f g h = line_refused layout
   two (listed [] next) f g h = line_refused layout

@@ -1,14 +1,13 @@
 -- The sheet that the lines of a text describe, whether it is sound or not: the one that load judges after the last line.
-use Rattle.std.specs.Prelude.{ℕ, zero, suc, ◌+◌, ◌≤◌, List}
+use Rattle.std.specs.Prelude.{ℕ, zero, suc, ◌+◌, ◌≤◌, List, Err}
 use Rattle.text.specs.Keys.{bars_key, wires_key, wire_key, around_key}
 use Rattle.text.specs.Reading.{line_at}
 use Rattle.text.specs.Shapes.{with_one, with_two, with_some}
-use Rattle.answers.specs.Answers.{Answer}
+use Rattle.answers.specs.declared.Refusal.{Refusal}
 use Rattle.answers.specs.Answers.{refusal_number}
 use Rattle.sheet.specs.declared.Sheet.{Sheet}
 use Rattle.load.specs.Rings.{link_ring}
 use Rattle.load.specs.Load.{Parsed, empty_sheet, with_edge, with_nexts, judged, parse}
-use Rattle.load.specs.Load.Parsed.{refused}
 
 -- r lines `around=` from bar v on, at a place; a line of another layout, here and below, ends the sheet
 unfoldable pub rings_from : ℕ → List ℕ → Sheet → ℕ → ℕ → Sheet
@@ -31,7 +30,7 @@ described text =
 -- what load makes of lines that describe the sheet s: it judges s after the last line, or refuses a line, 1 to 4
 pub data Read (s : Sheet) : Parsed → Type 0 where
   last_line : (next : ℕ) → Read s (judged s next)
-  refused_line : (a : Answer) → 1 ≤ refusal_number a → refusal_number a ≤ 4 → Read s (refused a)
+  refused_line : (r : Refusal) → 1 ≤ refusal_number r → refusal_number r ≤ 4 → Read s (Err r)
 
 abbrev pub DescribedLaw : Type 0
 DescribedLaw = (text : List ℕ) → Read (described text) (parse text)

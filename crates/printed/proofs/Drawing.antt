@@ -7,15 +7,15 @@ use mathlib.Core.List.{List, [], ◌∷◌, ◌++◌, append_assoc}
 use native.Mathlib.Omega.{arith}
 use borrow.Author.Tests.{le-leb}
 use lib.ListN.{length, drop}
-use Rattle.answers.specs.Refusals.{is_accepted}
-use Rattle.answers.proofs.Refusals.{accepts_accepted}
 use Rattle.sheet.specs.declared.Sheet.{Sheet}
 use Rattle.sheet.specs.Fresh.{fresh_sheet}
-use Rattle.load.specs.Load.{load}
+use Rattle.answers.specs.Refusals.{answering}
+use Rattle.load.specs.declared.Loaded.{Loaded}
+use Rattle.load.specs.Load.{load, returned}
 use Rattle.edit.specs.declared.Edit.{Edit}
 use Rattle.edit.specs.declared.Edit.TheVariants.{In, Run, Out, Off, Refused}
 use Rattle.edit.specs.Lines.{edit_of, line_length}
-use Rattle.edit.specs.Calls.{apply}
+use Rattle.edit.specs.Calls.{apply, sheet_after}
 use Rattle.drawing.specs.Write.{drawing_text_of}
 use Rattle.program.specs.Program.{edit_output, edits_output, loaded_output, plate_output}
 use Rattle.program.proofs.Edits.{line_shorter, one_line}
@@ -42,8 +42,8 @@ pub all_edits : AllEdits
 all_edits text r l = bounds r (length text) text l (omega arith)
 
 -- the sheet after an edit is the sheet after its call
-call_after : (s : Sheet) (e : Edit) (es : List Edit) → after s (calls_for (e ∷ es)) ≡ after (apply s e).sheet (calls_for es)
-unfolding calls_for after outcome apply
+call_after : (s : Sheet) (e : Edit) (es : List Edit) → after s (calls_for (e ∷ es)) ≡ after (sheet_after s (apply s e)) (calls_for es)
+unfolding calls_for after outcome apply sheet_after answering
 call_after s (In k) es = refl
 call_after s (Run a p b q) es = refl
 call_after s (Out k) es = refl
@@ -60,17 +60,15 @@ edits_drawn (suc r) s (b ∷ text) =
     let later = drop (line_length all) all in
     let es = edits_in r later in
     one_line r s all (omega arith)
-    ∙ ap (λ (o : List ℕ). edit_output e ++ o) (edits_drawn r e.sheet later)
-    ∙ sym (append_assoc (edit_output e) (refusals e.sheet es) (drawing_text_of (after e.sheet (calls_for es))))
-    ∙ ap (λ (t : Sheet). edit_output e ++ refusals e.sheet es ++ drawing_text_of t) (sym (call_after s (edit_of all) es))
+    ∙ ap (λ (o : List ℕ). edit_output e ++ o) (edits_drawn r (sheet_after s e) later)
+    ∙ sym (append_assoc (edit_output e) (refusals (sheet_after s e) es) (drawing_text_of (after (sheet_after s e) (calls_for es))))
+    ∙ ap (λ (t : Sheet). edit_output e ++ refusals (sheet_after s e) es ++ drawing_text_of t) (sym (call_after s (edit_of all) es))
 
-edits_only : (input : List ℕ) → length input ≤ 16384 → (load input fresh_sheet).answer ≡ Ok tt
-    → plate_output input ≡ edits_output (length input) (load input fresh_sheet).sheet (drop (load input fresh_sheet).taken input)
-unfolding plate_output loaded_output
-edits_only input h a =
-    let t : is_accepted (load input fresh_sheet).answer ≡ true = ap is_accepted a ∙ accepts_accepted in
-    rw (le-leb (length input) 16384 h, t) refl
+edits_only : (input : List ℕ) → length input ≤ 16384 → (l : Loaded) → load input ≡ Ok l
+    → let r = returned fresh_sheet (load input) in plate_output input ≡ edits_output (length input) r.sheet (drop r.taken input)
+unfolding plate_output loaded_output returned
+edits_only input h l e = rw (le-leb (length input) 16384 h, e) refl
 
 pub printed_drawing : PrintedDrawing
 unfolding after outcome
-printed_drawing input h a = record { output = edits_only input h a ∙ edits_drawn (length input) _ _; holds = demand (calls_in input) }
+printed_drawing input h l e = record { output = edits_only input h l e ∙ edits_drawn (length input) _ _; holds = demand (calls_in input) }

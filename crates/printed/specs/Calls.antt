@@ -2,11 +2,11 @@
 use Rattle.std.specs.Prelude.{ℕ, zero, suc, List, [], ◌∷◌, ◌++◌, length, drop}
 use Rattle.sheet.specs.declared.Sheet.{Sheet}
 use Rattle.sheet.specs.Fresh.{fresh_sheet}
-use Rattle.load.specs.Load.{load}
+use Rattle.load.specs.Load.{load, returned}
 use Rattle.edit.specs.declared.Edit.{Edit}
 use Rattle.edit.specs.declared.Edit.TheVariants.{In, Run, Out, Off, Refused}
 use Rattle.edit.specs.Lines.{edit_of, line_length}
-use Rattle.edit.specs.Calls.{apply}
+use Rattle.edit.specs.Calls.{apply, sheet_after}
 use Rattle.program.specs.Program.{edit_output}
 use Rattle.demand.specs.Calls.{Call}
 use Rattle.demand.specs.Calls.Call.{LoadText, PutIn, RunEdge, TakeOutEdge, TakeOutVertex}
@@ -29,11 +29,11 @@ calls_for (Refused ∷ es) = calls_for es
 -- one line `refused=` and number for each refused edit, the first of them on the sheet s
 unfoldable pub refusals : Sheet → List Edit → List ℕ
 refusals s [] = []
-refusals s (e ∷ es) = edit_output (apply s e) ++ refusals (apply s e).sheet es
+refusals s (e ∷ es) = edit_output (apply s e) ++ refusals (sheet_after s (apply s e)) es
 
 -- the edits of an input: what follows the sheet
 abbrev pub input_edits : List ℕ → List Edit
-input_edits input = edits_in (length input) (drop (load input fresh_sheet).taken input)
+input_edits input = edits_in (length input) (drop (returned fresh_sheet (load input)).taken input)
 
 -- the calls of an input: load, then the edits
 abbrev pub calls_in : List ℕ → List Call

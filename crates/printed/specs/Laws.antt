@@ -2,7 +2,8 @@
 use Rattle.std.specs.Prelude.{ℕ, ◌≤◌, ◌≡◌, List, ◌++◌, length, Ok}
 use Rattle.sheet.specs.declared.Sheet.{Sheet}
 use Rattle.sheet.specs.Fresh.{fresh_sheet}
-use Rattle.load.specs.Load.{load}
+use Rattle.load.specs.declared.Loaded.{Loaded}
+use Rattle.load.specs.Load.{load, returned}
 use Rattle.drawing.specs.Draw.{drawing_of}
 use Rattle.drawing.specs.Write.{drawing_text}
 use Rattle.program.specs.Program.{plate_output}
@@ -22,8 +23,8 @@ last_sheet input = after_calls (calls_in input)
 -- sound, and in its drawing nothing touches that may not, and every ring stands in its order.
 pub record Prints (input : List ℕ) : Type 0 where
   pub output : plate_output input
-      ≡ refusals (load input fresh_sheet).sheet (input_edits input) ++ drawing_text (last_sheet input).vertices (last_sheet input).edges (drawing_of (last_sheet input))
+      ≡ refusals (returned fresh_sheet (load input)).sheet (input_edits input) ++ drawing_text (last_sheet input).vertices (last_sheet input).edges (drawing_of (last_sheet input))
   pub holds : Holds (calls_in input)
 
 abbrev pub PrintedDrawing : Type 0
-PrintedDrawing = (input : List ℕ) → length input ≤ 16384 → (load input fresh_sheet).answer ≡ Ok tt → Prints input
+PrintedDrawing = (input : List ℕ) → length input ≤ 16384 → (l : Loaded) → load input ≡ Ok l → Prints input
