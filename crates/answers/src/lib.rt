@@ -58,11 +58,11 @@ impl Refusal {
 
 // The number of an answer: 0 for acceptance, else the refusal number.
 #[tactic(auto, unfolding(crate::specs::Answers::answer_number))]
-pub fn answer_number(answer: Result<(), Refusal>) -> u16
-    ensures { result ≡ answer_number answer }
+pub fn answer_number<T>(answer: &Result<T, Refusal>) -> u16
+    ensures { result ≡ answer_number answer.now }
 {
     match answer {
-        Ok(()) => 0,
+        Ok(_) => 0,
         Err(refusal) => refusal.number(),
     }
 }

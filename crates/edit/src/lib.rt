@@ -2,9 +2,11 @@
 #![tactic(auto)]
 
 ghost use Rattle.std.specs.Prelude.{◌≡◌};
+ghost use Rattle.edit.specs.Calls.{sheet_after};
 ghost use Rattle.edit.specs.Lines.{edit_of, edit_answer, line_length, read_edit};
 
 use answers::Refusal;
+use sheet::Sheet;
 
 // An edit: put in (wire), run (bar, wire, bar, wire), take out a wire, take out a bar;
 // or the refusal of a line that is not of the layout.
@@ -81,5 +83,16 @@ pub fn read_edit(text: &[u8]) -> EditRead
     EditRead {
         edit: edit_of(text),
         taken: line_length(text),
+    }
+}
+
+// The sheet after an edit of the sheet s: a refused edit hands back the sheet it got.
+#[tactic(auto, unfolding(crate::specs::Calls::sheet_after))]
+pub fn sheet_after(s: Sheet, answer: Result<Sheet, Refusal>) -> Sheet
+    ensures { result ≡ sheet_after s answer }
+{
+    match answer {
+        Ok(made) => made,
+        Err(_) => s,
     }
 }

@@ -1,9 +1,9 @@
 -- An edit as plain numbers: its kind, and its numbers.
-use Rattle.std.specs.Prelude.{ℕ, List, [], ◌∷◌, cond, eqb}
+use Rattle.std.specs.Prelude.{ℕ, List, [], ◌∷◌, cond, eqb, Result}
+use Rattle.answers.specs.declared.Refusal.{Refusal}
 use Rattle.sheet.specs.declared.Sheet.{Sheet}
 use Rattle.edit.specs.declared.Edit.{Edit}
 use Rattle.edit.specs.declared.Edit.TheVariants.{In, Run, Out, Off, Refused}
-use Rattle.edit.specs.declared.Edited.{Edited}
 use Rattle.edit.specs.Calls.{put_in_call, run_call, take_out_edge_call, take_out_vertex_call, apply}
 
 abbrev pub kind_of : Edit → ℕ
@@ -21,7 +21,7 @@ numbers_in (Off v) = v ∷ 0 ∷ 0 ∷ 0 ∷ []
 numbers_in Refused = 0 ∷ 0 ∷ 0 ∷ 0 ∷ []
 
 -- one of the four edits by its kind, with numbers of any size; any other kind is that of a line not of the layout
-unfoldable pub edit_by : (kind a p b q : ℕ) → Sheet → Edited
+unfoldable pub edit_by : (kind a p b q : ℕ) → Sheet → Result Sheet Refusal
 edit_by kind a p b q s =
     cond (eqb kind 0) (put_in_call s a)
     (cond (eqb kind 1) (run_call s a p b q)

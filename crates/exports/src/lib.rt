@@ -11,15 +11,14 @@ ghost use Rattle.edit.specs.Lines.{read_edit};
 ghost use Rattle.drawing.specs.Write.{write_drawing, buffer_after_drawing};
 ghost use Rattle.program.specs.Program.{write_output, buffer_after_output};
 ghost use Rattle.exports.specs.Edits.{kind_of, numbers_in, edit_by};
-ghost use Rattle.answers.specs.declared.Answer.TheVariants.{Accepted};
 ghost use Rattle.replay.specs.Encoded.{calls_of};
 ghost use Rattle.replay.specs.Replayed.{Replayed};
 ghost use Rattle.sheet.specs.Darts.{sheet_of};
 ghost use Rattle.exports.specs.Sheets.{Parts, Changed, Filled};
 
-use answers::Answer;
+use answers::Refusal;
 use drawing::Drawing;
-use edit::{Edit, Edited};
+use edit::Edit;
 use sheet::Sheet;
 
 // The level of each node of a digraph; false where there is a circle.
@@ -72,6 +71,27 @@ fn sheet_of(
     }
 }
 
+// Puts a sheet into parts.
+fn put_parts(
+    sheet: Sheet,
+    vertices: &mut usize,
+    edges: &mut usize,
+    tails: &mut [u16; 256],
+    heads: &mut [u16; 256],
+    nexts: &mut [u16; 512],
+)
+    ensures { sheet_of vertices.new edges.new tails.new heads.new nexts.new ≡ sheet }
+{
+    let t = sheet.tails;
+    let h = sheet.heads;
+    let n = sheet.nexts;
+    *vertices = sheet.vertices;
+    *edges = sheet.edges;
+    *tails = t;
+    *heads = h;
+    *nexts = n;
+}
+
 // Whether a record is a sound sheet.
 #[unsafe(no_mangle)]
 pub extern "C" fn walnut_is_sound(
@@ -97,31 +117,15 @@ pub extern "C" fn walnut_load(
     nexts: &mut [u16; 512],
     taken: &mut usize,
 ) -> u16
-    ensures { Parts (load text.now (sheet_of vertices.old edges.old tails.old heads.old nexts.old)) result vertices.new edges.new tails.new heads.new nexts.new taken.new }
+    ensures { Parts (load text.now) (sheet_of vertices.old edges.old tails.old heads.old nexts.old) result vertices.new edges.new tails.new heads.new nexts.new taken.new }
 {
-    let old_tails = *tails;
-    let old_heads = *heads;
-    let old_nexts = *nexts;
-    let present = Sheet {
-        vertices: *vertices,
-        edges: *edges,
-        tails: old_tails,
-        heads: old_heads,
-        nexts: old_nexts,
-    };
-    let loaded = load::load(text, present);
-    let sheet = loaded.sheet;
-    let new_tails = sheet.tails;
-    let new_heads = sheet.heads;
-    let new_nexts = sheet.nexts;
-    *vertices = sheet.vertices;
-    *edges = sheet.edges;
-    *tails = new_tails;
-    *heads = new_heads;
-    *nexts = new_nexts;
+    let present = sheet_of(*vertices, *edges, tails, heads, nexts);
+    let answer = load::load(text);
+    let number = answers::answer_number(&answer);
+    let loaded = load::returned(answer, present);
+    put_parts(loaded.sheet, vertices, edges, tails, heads, nexts);
     *taken = loaded.taken;
-    let answer = loaded.answer;
-    answers::refusal_number(answer)
+    number
 }
 
 // Write sheet.
@@ -139,28 +143,22 @@ pub extern "C" fn walnut_write_sheet(
 {
     let sheet = sheet_of(vertices, edges, tails, heads, nexts);
     let written = writesheet::write_sheet(sheet, buffer);
-    *count = written.count;
-    let answer = written.answer;
-    answers::refusal_number(answer)
+    *count = written.unwrap_or(0);
+    answers::answer_number(&written)
 }
 
 // One of the four edits by its kind: 0 in, 1 run, 2 out, 3 off; any other is refused 1. The numbers past those that it has are not looked at.
-fn edit_by(kind: u16, s: Sheet, a: usize, p: usize, b: usize, q: usize) -> Edited
+#[tactic(auto, unfolding(crate::specs::Edits::edit_by, edit::specs::Calls::apply, answers::specs::Refusals::answering))]
+fn edit_by(kind: u16, s: Sheet, a: usize, p: usize, b: usize, q: usize) -> Result<Sheet, Refusal>
     ensures { result ≡ edit_by kind a p b q s }
 {
-    if kind == 0 {
-        return putin::put_in(s, a);
+    match kind {
+        0 => putin::put_in(s, a),
+        1 => run::run(s, a, p, b, q),
+        2 => takeoutedge::take_out_edge(s, a),
+        3 => takeoutvertex::take_out_vertex(s, a),
+        _ => Err(Refusal::BadLayout),
     }
-    if kind == 1 {
-        return run::run(s, a, p, b, q);
-    }
-    if kind == 2 {
-        return takeoutedge::take_out_edge(s, a);
-    }
-    if kind == 3 {
-        return takeoutvertex::take_out_vertex(s, a);
-    }
-    edit::refuse(Answer::BadLayout, s)
 }
 
 // An edit. The sheet is lent in parts, and the sheet that the edit returns takes its place.
@@ -177,30 +175,14 @@ pub extern "C" fn walnut_edit(
     heads: &mut [u16; 256],
     nexts: &mut [u16; 512],
 ) -> u16
-    ensures { Changed (edit_by kind a p b q (sheet_of vertices.old edges.old tails.old heads.old nexts.old)) result vertices.new edges.new tails.new heads.new nexts.new }
+    ensures { Changed (edit_by kind a p b q (sheet_of vertices.old edges.old tails.old heads.old nexts.old)) (sheet_of vertices.old edges.old tails.old heads.old nexts.old) result vertices.new edges.new tails.new heads.new nexts.new }
 {
-    let old_tails = *tails;
-    let old_heads = *heads;
-    let old_nexts = *nexts;
-    let present = Sheet {
-        vertices: *vertices,
-        edges: *edges,
-        tails: old_tails,
-        heads: old_heads,
-        nexts: old_nexts,
-    };
+    let present = sheet_of(*vertices, *edges, tails, heads, nexts);
     let edited = edit_by(kind, present, a, p, b, q);
-    let sheet = edited.sheet;
-    let new_tails = sheet.tails;
-    let new_heads = sheet.heads;
-    let new_nexts = sheet.nexts;
-    *vertices = sheet.vertices;
-    *edges = sheet.edges;
-    *tails = new_tails;
-    *heads = new_heads;
-    *nexts = new_nexts;
-    let answer = edited.answer;
-    answers::refusal_number(answer)
+    let number = answers::answer_number(&edited);
+    let sheet = edit::sheet_after(present, edited);
+    put_parts(sheet, vertices, edges, tails, heads, nexts);
+    number
 }
 
 // A list of calls from the fresh sheet, five numbers a call: its kind (0 in, 1 run, 2 out, 3 off, 4 load; any other is refused 10) and four numbers;
@@ -208,10 +190,9 @@ pub extern "C" fn walnut_edit(
 // lent numbers, two a call, and the drawing of the sheet after the list is returned.
 #[unsafe(no_mangle)]
 pub extern "C" fn walnut_replay(calls: &[usize], text: &[u8], answers: &mut [usize]) -> Drawing
-    ensures { Replayed (calls_of calls.now text.now) answers.old (record { answer = Accepted; drawing = result }) answers.new }
+    ensures { Replayed (calls_of calls.now text.now) answers.old result answers.new }
 {
-    let drawn = replay::replay(calls, text, answers);
-    drawn.drawing
+    replay::replay(calls, text, answers)
 }
 
 // Write drawing.
@@ -229,9 +210,8 @@ pub extern "C" fn walnut_write_drawing(
 {
     let sheet = sheet_of(vertices, edges, tails, heads, nexts);
     let written = writedrawing::write_drawing(sheet, buffer);
-    *count = written.count;
-    let answer = written.answer;
-    answers::refusal_number(answer)
+    *count = written.unwrap_or(0);
+    answers::answer_number(&written)
 }
 
 // The kind of an edit: 0 in, 1 run, 2 out, 3 off; 5 of a line that is refused (4 is a load in a list of calls).
@@ -279,7 +259,6 @@ pub extern "C" fn walnut_plate(input: &[u8], buffer: &mut [u8], count: &mut usiz
     ensures { Filled (write_output input.now buffer.old) (buffer_after_output input.now buffer.old) result count.new buffer.new }
 {
     let written = program::plate(input, buffer);
-    *count = written.count;
-    let answer = written.answer;
-    answers::refusal_number(answer)
+    *count = written.unwrap_or(0);
+    answers::answer_number(&written)
 }

@@ -1,7 +1,7 @@
 -- What a list of calls from the fresh sheet answers, put into lent numbers, and the drawing after it.
-use Rattle.std.specs.Prelude.{ℕ, ◌≡◌, List, [], ◌∷◌}
+use Rattle.std.specs.Prelude.{ℕ, ◌≡◌, List, [], ◌∷◌, Ok}
 use Rattle.sheet.specs.Fresh.{fresh_sheet}
-use Rattle.drawing.specs.declared.Drawn.{Drawn}
+use Rattle.drawing.specs.declared.Drawing.{Drawing}
 use Rattle.drawing.specs.Draw.{draw_call}
 use Rattle.demand.specs.Calls.{Call, Outcome, outcomes, after_calls}
 use Rattle.demand.specs.Demand.{Holds}
@@ -14,7 +14,7 @@ answers_put (o ∷ os) (x ∷ []) = x ∷ []
 answers_put (o ∷ os) (x ∷ y ∷ rest) = o.number ∷ o.taken ∷ answers_put os rest
 
 -- the drawing that draw answers, the lent numbers afterwards, and what demand 3 says of the list
-pub record Replayed (cs : List Call) (lent : List ℕ) (r : Drawn) (left : List ℕ) : Type 0 where
-  pub drawn : r ≡ draw_call (after_calls cs)
+pub record Replayed (cs : List Call) (lent : List ℕ) (d : Drawing) (left : List ℕ) : Type 0 where
+  pub drawn : draw_call (after_calls cs) ≡ Ok d
   pub answers : left ≡ answers_put (outcomes fresh_sheet cs) lent
   pub holds : Holds cs

@@ -3,15 +3,15 @@
 
 ghost use Rattle.std.specs.Prelude.{◌≡◌, ◌<◌, min};
 ghost use Rattle.std.proofs.Math.Seq.{slice};
-ghost use Rattle.load.specs.Load.{load};
+ghost use Rattle.answers.specs.Answers.{answer_number};
+ghost use Rattle.load.specs.Load.{load, returned};
 ghost use Rattle.demand.specs.Calls.{of_edit, outcome};
 ghost use Rattle.replay.specs.Encoded.{call_by, calls_of};
 ghost use Rattle.replay.specs.Replayed.{Replayed};
 ghost use Rattle.replay.specs.Inner.{reply_of, pair_put};
 
-use counting::wide;
-use drawing::Drawn;
-use edit::Edited;
+use answers::Refusal;
+use drawing::Drawing;
 use load::Loaded;
 use sheet::Sheet;
 
@@ -30,25 +30,35 @@ fn lesser(a: usize, b: usize) -> usize
 }
 
 // Loads the part of the text from a start up to an end.
-fn load_part(text: &[u8], start: usize, end: usize, s: Sheet) -> Loaded
-    ensures { result ≡ load (slice start end text.now) s }
+fn load_part(text: &[u8], start: usize, end: usize) -> Result<Loaded, Refusal>
+    ensures { result ≡ load (slice start end text.now) }
 {
     let to = lesser(end, text.len());
     let from = lesser(start, to);
-    load::load(&text[from..to], s)
+    load::load(&text[from..to])
 }
 
-// An edit takes no bytes.
-fn of_edit(e: Edited) -> Reply
-    ensures { result ≡ reply_of (of_edit e) }
+// What an edit of the sheet s replies: it takes no bytes.
+fn of_edit(s: Sheet, answer: Result<Sheet, Refusal>) -> Reply
+    ensures { result ≡ reply_of (of_edit s answer) }
 {
-    let answer = e.answer;
-    let number = answers::refusal_number(answer);
-    let sheet = e.sheet;
     Reply {
-        number: wide(number),
-        sheet,
+        number: usize::from(answers::answer_number(&answer)),
+        sheet: edit::sheet_after(s, answer),
         taken: 0,
+    }
+}
+
+// What a load replies where s is the present sheet.
+fn of_load(s: Sheet, answer: Result<Loaded, Refusal>) -> Reply
+    ensures { result ≡ record { number = answer_number answer; sheet = (returned s answer).sheet; taken = (returned s answer).taken } }
+{
+    let number = usize::from(answers::answer_number(&answer));
+    let loaded = load::returned(answer, s);
+    Reply {
+        number,
+        sheet: loaded.sheet,
+        taken: loaded.taken,
     }
 }
 
@@ -60,29 +70,13 @@ const NO_EDGE: usize = 18446744073709551615;
 fn step(kind: usize, a: usize, p: usize, b: usize, q: usize, text: &[u8], s: Sheet) -> Reply
     ensures { result ≡ reply_of (outcome s (call_by kind a p b q text.now)) }
 {
-    if kind == 0 {
-        return of_edit(putin::put_in(s, a));
-    }
-    if kind == 1 {
-        return of_edit(run::run(s, a, p, b, q));
-    }
-    if kind == 2 {
-        return of_edit(takeoutedge::take_out_edge(s, a));
-    }
-    if kind == 3 {
-        return of_edit(takeoutvertex::take_out_vertex(s, a));
-    }
-    if kind != 4 {
-        return of_edit(putin::put_in(s, NO_EDGE));
-    }
-    let loaded = load_part(text, a, p, s);
-    let answer = loaded.answer;
-    let number = answers::refusal_number(answer);
-    let sheet = loaded.sheet;
-    Reply {
-        number: wide(number),
-        sheet,
-        taken: loaded.taken,
+    match kind {
+        0 => of_edit(s, putin::put_in(s, a)),
+        1 => of_edit(s, run::run(s, a, p, b, q)),
+        2 => of_edit(s, takeoutedge::take_out_edge(s, a)),
+        3 => of_edit(s, takeoutvertex::take_out_vertex(s, a)),
+        4 => of_load(s, load_part(text, a, p)),
+        _ => of_edit(s, putin::put_in(s, NO_EDGE)),
     }
 }
 
@@ -99,7 +93,7 @@ fn put_pair(answers: &mut [usize], i: usize, x: usize, y: usize)
 }
 
 // Makes the calls that the numbers encode, one after the other from the fresh sheet, puts each one's answer into the lent numbers, and draws the sheet that they leave.
-pub fn replay(calls: &[usize], text: &[u8], answers: &mut [usize]) -> Drawn
+pub fn replay(calls: &[usize], text: &[u8], answers: &mut [usize]) -> Drawing
     ensures { Replayed (calls_of calls.now text.now) answers.old result answers.new }
 {
     let mut s = sheet::fresh();
@@ -116,9 +110,8 @@ pub fn replay(calls: &[usize], text: &[u8], answers: &mut [usize]) -> Drawn
             s,
         );
         put_pair(answers, i, reply.number, reply.taken);
-        let next = reply.sheet;
-        s = next;
+        s = reply.sheet;
         i += 1;
     }
-    draw::draw(s)
+    draw::returned(draw::draw(s))
 }

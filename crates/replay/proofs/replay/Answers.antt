@@ -1,6 +1,8 @@
-use mathlib.Core.Path.{◌∙◌, ap}
-use Rattle.drawing.specs.Draw.{draw_call}
+use Rattle.std.proofs.Common.{◌≡◌, ◌∙◌, sym, ap, Ok}
+use Rattle.drawing.specs.Draw.{draw_call, drawing_of, returned}
+use Rattle.demand.specs.Calls.{after_calls}
 use Rattle.demand.proofs.Demand.{demand}
+use Rattle.replay.specs.Encoded.{calls_of}
 use Rattle.replay.proofs.Turns.{made_none, made_more, made_all}
 use Rattle.replay.proofs.replay.Goals as goal
 
@@ -17,6 +19,10 @@ pub shape_of-answers : goal.shape_of-answers
 shape_of-answers c = c.loop-i.invariant.kept
 
 pub returns : goal.returns
+unfolding returned
 returns c =
     let (s, answers) = made_all _ _ _ c.loop-i.invariant c.loop-i-test.false in
-    record { drawn = c.draw.ensures ∙ ap draw_call s; answers = answers; holds = demand _ }
+    let holds = demand (calls_of c.args.calls.now c.args.text.now) in
+    let is : c.returned.result ≡ drawing_of (after_calls (calls_of c.args.calls.now c.args.text.now)) =
+        c.returned.ensures ∙ ap returned (c.draw.ensures ∙ ap draw_call s ∙ holds.drawn) in
+    record { drawn = holds.drawn ∙ ap Ok (sym is); answers = answers; holds = holds }
