@@ -6,16 +6,16 @@ use borrow.Author.Tests.{le-ltb, ltb-true, ltb-false}
 use lib.Dec.{ltb}
 use Rattle.std.specs.Io.KnownBytes.{Appends, Consumes, IsAtEnd}
 use Rattle.counting.proofs.Iterate.{by_bool}
-use Rattle.answers.specs.Answers.{refusal_number}
-use Rattle.answers.specs.Refusals.{first, is_accepted}
-use Rattle.writesheet.specs.Write.{written, buffer_after}
+use Rattle.std.specs.Result.{result_unwrap_or}
+use Rattle.answers.specs.Refusals.{first, answering}
+use Rattle.writesheet.specs.Write.{buffer_after}
 use Rattle.program.specs.Program.{plate_output, longest_output, plate_answer, write_output, buffer_after_output}
 use Rattle.program.proofs.Cases.{too_long}
 use Rattle.plate.specs.Streams.{AppendsFront}
 
 -- In a buffer that is long enough the output is what stands in front.
-pub output_in_front : (input buffer : List ℕ) → longest_output ≤ length buffer → take (write_output input buffer).count (buffer_after_output input buffer) ≡ plate_output input
-unfolding plate_answer written buffer_after first is_accepted refusal_number
+pub output_in_front : (input buffer : List ℕ) → longest_output ≤ length buffer → take (result_unwrap_or (write_output input buffer) 0) (buffer_after_output input buffer) ≡ plate_output input
+unfolding plate_answer buffer_after first answering
 output_in_front input buffer h =
     rw (le-ltb (length buffer) longest_output h)
     (take-append-le _ (plate_output input) _ (omega arith) ∙ take_all _ (plate_output input) (omega arith))

@@ -1,20 +1,13 @@
 // The program `plate`: reads standard input, and writes the output for it to standard output.
 #![tactic(auto)]
 
-ghost use Rattle.std.specs.Prelude.{◌≡◌, ◌<◌, ◌≤◌, true, false, length, take, IfSome};
+ghost use Rattle.std.specs.Prelude.{◌≡◌, ◌<◌, true, length, take, IfSome, IfOk};
 ghost use Rattle.std.specs.Counts.{IsPrefixLen};
 ghost use Rattle.std.specs.Io.KnownBytes.{Appends, Consumes, IsAtEnd};
 ghost use Rattle.program.specs.Program.{plate_output};
 ghost use Rattle.plate.specs.Streams.{AppendsFront};
 
-use std::io::{Read, Write};
-
-// What was read: how many bytes, and whether a read failed.
-#[derive(Drop)]
-struct Input {
-    failed: bool,
-    count: usize,
-}
+use std::io::{self, Read, Write};
 
 // One byte more than an input may have: one that fills it is refused 18, and the rest is not read.
 fn input_buffer() -> [u8; 16385]
@@ -30,29 +23,20 @@ fn output_buffer() -> [u8; 187031]
     [0; 187031]
 }
 
-// Reads until the buffer is full, the input ends or a read fails.
-fn read_input<R: Read>(reader: &mut R, input: &mut [u8]) -> Input
-    ensures in_bounds { IsPrefixLen result.count input.new }
-    ensures bytes { Consumes (R.remaining reader.old) (R.remaining reader.new) (take result.count input.new) }
-    ensures all { result.failed ≡ false → result.count < length input.new → IsAtEnd (R.remaining reader.new) }
+// Reads until the buffer is full or the input ends, and returns how many bytes there were; or fails as a read fails.
+fn read_input<R: Read>(reader: &mut R, input: &mut [u8]) -> io::Result<usize>
+    ensures in_bounds { IfOk result (λ count. IsPrefixLen count input.new) }
+    ensures bytes { IfOk result (λ count. Consumes (R.remaining reader.old) (R.remaining reader.new) (take count input.new)) }
+    ensures all { IfOk result (λ count. count < length input.new → IsAtEnd (R.remaining reader.new)) }
 {
     let mut at = 0;
     while at < input.len() {
-        match reader.read(&mut input[at..]) {
-            Ok(0) => break,
-            Ok(more) => at += more,
-            Err(_) => {
-                return Input {
-                    failed: true,
-                    count: at,
-                };
-            }
+        match reader.read(&mut input[at..])? {
+            0 => break,
+            more => at += more,
         }
     }
-    Input {
-        failed: false,
-        count: at,
-    }
+    Ok(at)
 }
 
 // Writes until a write fails or takes nothing, and returns how many bytes were written.
@@ -77,8 +61,7 @@ fn answer<W: Write>(writer: &mut W, input: &[u8]) -> bool
     ensures whole { result ≡ true → Appends (W.contents writer.old) (W.contents writer.new) (plate_output input.now) }
 {
     let mut output = output_buffer();
-    let written = program::plate(input, &mut output);
-    let count = written.count;
+    let count = program::plate(input, &mut output).unwrap_or(0);
     write_bytes(writer, &output[..count]) == count
 }
 
@@ -88,12 +71,10 @@ fn run<R: Read, W: Write>(reader: &mut R, writer: &mut W) -> bool
     ensures whole { result ≡ true → IfSome (R.remaining reader.old) (λ input. Appends (W.contents writer.old) (W.contents writer.new) (plate_output input)) }
 {
     let mut input = input_buffer();
-    let read = read_input(reader, &mut input);
-    if read.failed {
-        return false;
+    match read_input(reader, &mut input) {
+        Ok(count) => answer(writer, &input[..count]),
+        Err(_) => false,
     }
-    let count = read.count;
-    answer(writer, &input[..count])
 }
 
 fn main(rt: HostRuntime) {

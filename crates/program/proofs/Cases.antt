@@ -1,5 +1,6 @@
 -- What is printed, case by case, and how it stands in the buffer. Assumes nothing.
 use Rattle.std.specs.Prelude.{Result, Ok, Err}
+use Rattle.std.specs.Result.{result_unwrap_or}
 use Prim.Native.Nat.{ℕ, ◌+◌, ◌≤◌, ◌<◌}
 use mathlib.Core.Path.{◌≡◌, refl, sym, ap, ◌∙◌}
 use mathlib.Core.Bool.{true, false}
@@ -63,8 +64,8 @@ module _ (input buffer : List ℕ) where
       (ap Ok n, q ∙ sets-eq (plate_output input) buffer 0 (omega (arith, output_bound input)) ∙ rw zero-add refl)
 
   -- the output lies within the buffer
-  pub count_fits : (count : ℕ) → Ok count ≡ write_output input buffer → count ≤ length buffer
+  pub count_fits : (r : Result ℕ Refusal) → r ≡ write_output input buffer → result_unwrap_or r 0 ≤ length buffer
   unfolding plate_answer first answering
-  count_fits count e = by_bool (ltb (length buffer) longest_output)
-      (λ t. cc (rw t at e))
-      (λ t. let z : count ≡ length (plate_output input) = cc (rw t at e) in omega (arith, output_bound input, ltb-false (length buffer) longest_output t))
+  count_fits r e = by_bool (ltb (length buffer) longest_output)
+      (λ t. let z : result_unwrap_or r 0 ≡ 0 = ap (λ x. result_unwrap_or x 0) (rw t at e) in omega arith)
+      (λ t. let z : result_unwrap_or r 0 ≡ length (plate_output input) = ap (λ x. result_unwrap_or x 0) (rw t at e) in omega (arith, output_bound input, ltb-false (length buffer) longest_output t))

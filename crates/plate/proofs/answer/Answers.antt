@@ -1,4 +1,4 @@
-use Rattle.std.proofs.Common.{arith, ◌≡◌, length, take, sym, ◌∙◌, subst}
+use Rattle.std.proofs.Common.{arith, ◌≡◌, ◌≤◌, length, take, sym, ◌∙◌, subst}
 use Rattle.std.proofs.lemmas.Bool.{eqb-true}
 use Rattle.std.specs.Io.KnownBytes.{Appends}
 use lib.Seq.{length-take-le, take_all}
@@ -9,15 +9,15 @@ use Rattle.plate.proofs.answer.Given.{Over}
 use Rattle.plate.proofs.answer.Goals as goal
 
 pub slice_bounds-output-end : goal.slice_bounds-output-end
-slice_bounds-output-end g c = omega (arith, count_fits _ _ _ c.plate-written.ensures.0, c.plate-written.auto.buffer)
+slice_bounds-output-end g c = omega (arith, c.unwrap_or-count.ensures, count_fits _ _ _ c.plate.ensures.0, c.plate.auto.buffer)
 
 pub slice_bounds-write_bytes-end : goal.slice_bounds-write_bytes-end
-slice_bounds-write_bytes-end g c = sym (length-take-le _ _ (omega (arith, count_fits _ _ _ c.plate-written.ensures.0, c.plate-written.auto.buffer)))
+slice_bounds-write_bytes-end g c = sym (length-take-le _ _ (omega (arith, c.unwrap_or-count.ensures, count_fits _ _ _ c.plate.ensures.0, c.plate.auto.buffer)))
 
 -- the output stands in front
-in_front : (g : Over) (c : goal.After-write_bytes g) → take c.plate-written.result.count c.plate-written.new.buffer ≡ plate_output c.args.input.now
+in_front : (g : Over) (c : goal.After-write_bytes g) → take c.unwrap_or-count.result c.plate.new.buffer ≡ plate_output c.args.input.now
 in_front g c =
-    rw (c.plate-written.ensures.0, c.plate-written.ensures.1)
+    rw (c.unwrap_or-count.ensures, c.plate.ensures.0, c.plate.ensures.1)
     (output_in_front _ _ (omega (arith, c.output_buffer-output.ensures)))
 
 pub returns-clause-front : goal.returns-clause-front
@@ -25,7 +25,7 @@ returns-clause-front g c = (c.write_bytes.result, subst (λ l. Appends (g.W.Writ
 
 pub returns-clause-whole : goal.returns-clause-whole
 returns-clause-whole g c h =
-    let all = take c.plate-written.result.count c.plate-written.new.buffer in
-    let same : c.write_bytes.result ≡ c.plate-written.result.count = eqb-true _ _ h in
-    let fits : length all ≡ c.plate-written.result.count = length-take-le _ _ (omega (arith, count_fits _ _ _ c.plate-written.ensures.0, c.plate-written.auto.buffer)) in
+    let all = take c.unwrap_or-count.result c.plate.new.buffer in
+    let same : c.write_bytes.result ≡ c.unwrap_or-count.result = eqb-true _ _ h in
+    let fits : length all ≡ c.unwrap_or-count.result = length-take-le _ _ (omega (arith, c.unwrap_or-count.ensures, count_fits _ _ _ c.plate.ensures.0, c.plate.auto.buffer)) in
     subst (Appends _ _) (take_all c.write_bytes.result all (omega arith) ∙ in_front g c) c.write_bytes.ensures.written

@@ -1,7 +1,7 @@
 use Rattle.std.proofs.Common.{rules, ◌≡◌, ◌≤◌, ◌+◌, ◌++◌, ℕ, List, length, take, sym, ap, ◌∙◌, subst, le_refl, drop_at, length-take-le}
 use Rattle.std.proofs.lemmas.Slice.{take-put_mid_below}
 use Rattle.std.specs.Io.KnownBytes.{Consumes}
-use Rattle.std.proofs.KnownBytes.{Consumes-nil, Consumes-trans, Consumes-kept}
+use Rattle.std.proofs.KnownBytes.{Consumes-trans}
 use borrow.Rule.Slice.PartMut.{put_mid, post_of}
 use lib.Seq.{take-add, take-append-le}
 use Rattle.plate.proofs.read_input.Goals as goal
@@ -15,14 +15,7 @@ read_behind at k n old part within fits =
     let behind : take n (lib.ListN.drop at new) ≡ take n part = ap (take n) (drop_at (take at old) (part ++ after) at (length-take-le at old within)) ∙ take-append-le n part after fits in
     ap (λ l. l ++ take n part) front ∙ ap (λ l. take at new ++ l) (sym behind) ∙ sym (take-add at n new)
 
-pub loop-at-init : goal.loop-at-init
-loop-at-init g c = (search rules, Consumes-nil _)
-
 pub loop-at-preserved : goal.loop-at-preserved
 loop-at-preserved g c =
     let within = c.loop-at.invariant.0 in
-    (search rules, subst (Consumes _ _) (read_behind _ _ _ _ _ within c.in-Ok.ensures.bound.0) (Consumes-trans _ _ _ _ _ c.loop-at.invariant.1 c.in-Ok.ensures.bytes.0))
-
-pub returns-in-Err-clause-bytes : goal.returns-in-Err-clause-bytes
-returns-in-Err-clause-bytes g c =
-    subst (Consumes _ _) (sym (take-put_mid_below _ _ _ _ _ (le_refl _) c.loop-at.invariant.0)) (Consumes-kept _ _ _ _ c.loop-at.invariant.1 c.in-Err.ensures.bytes)
+    (search rules, subst (Consumes _ _) (read_behind _ _ _ _ _ within c.in_ok-more.ensures.bound.0) (Consumes-trans _ _ _ _ _ c.loop-at.invariant.1 c.in_ok-more.ensures.bytes.0))
