@@ -1,35 +1,17 @@
 -- Tests and tables over the numbers below n. Assumes nothing.
-use Prim.Native.Nat.{ℕ, zero, suc, ◌+◌, ◌≤◌, ◌<◌}
-use mathlib.Core.Path.{◌≡◌, refl, sym, ap, ◌∙◌}
+use Rattle.std.proofs.Common.{ℕ, zero, suc, ◌<◌, ◌≡◌, refl, sym, ap, ◌∙◌, Bool, true, false, ◌&&◌, List, [], ◌∷◌, ◌++◌, arith, get_or, length, length-append}
 use mathlib.Core.Logic.{by_cases}
-use mathlib.Core.Bool.{Bool, true, false, ◌&&◌, and-true, and-false, and-eq-true_iff}
-use mathlib.Core.List.{List, [], ◌∷◌, ◌++◌}
+use Rattle.std.proofs.Math.Bool.{and-true, and-eq-true_iff, and_assoc}
 use native.Mathlib.Decide.{ℕ_discrete}
-use native.Mathlib.Numerals.{add-one}
-use native.Mathlib.Omega.{arith}
-use lib.ListN.{get_or, length, length-append, get_or-append}
+use lib.ListN.{get_or-append}
 use lib.Seq.{get_or_at}
+use Rattle.std.specs.List.{list_all}
 use Rattle.counting.specs.Below.{all_below, tabulate}
 
 module _ (p : ℕ → Bool) where
-  pub all_kept : (k : ℕ) → p k ≡ true → all_below p (k + 1) ≡ all_below p k
+  pub all_none : all_below p 0 ≡ true
   unfolding all_below
-  all_kept k b = rw (add-one, b) (and-true (all_below p k))
-
-  pub all_more : (k : ℕ) → all_below p k ≡ true → p k ≡ true → all_below p (k + 1) ≡ true
-  all_more k a b = all_kept k b ∙ a
-
-  pub all_fails : (n k : ℕ) → k < n → p k ≡ false → all_below p n ≡ false
-  unfolding all_below
-  all_fails zero k l f = absurd (omega arith)
-  all_fails (suc n) k l f = go (ℕ_discrete k n) (λ h. all_fails n k h f)
-    where
-      go : Dec (k ≡ n) → (k < n → all_below p n ≡ false) → (all_below p n && p n) ≡ false
-      go (yes e) ih = rw (← e, f) (and-false (all_below p k))
-      go (no e) ih = rw (ih (omega arith)) refl
-
-  pub all_over : (n k : ℕ) → all_below p k ≡ true → k ≤ n → n ≤ k → true ≡ all_below p n
-  all_over n k a l h = let z : k ≡ n = omega arith in rw z at (sym a)
+  all_none = refl
 
   pub all_at : (n : ℕ) → all_below p n ≡ true → (k : ℕ) → k < n → p k ≡ true
   unfolding all_below
@@ -59,6 +41,18 @@ module _ (p q : ℕ → Bool) where
       regroup true false true d = refl
       regroup true false false d = refl
       regroup false b c d = refl
+
+-- the first number, and those after it
+pub all_front : (p : ℕ → Bool) (n : ℕ) → all_below p (suc n) ≡ (p 0 && all_below (λ k. p (suc k)) n)
+unfolding all_below
+all_front p zero = sym (and-true (p 0))
+all_front p (suc n) = rw (all_front p n) (and_assoc (p 0) _ _)
+
+-- a test of the entries of a list
+pub list_all_below : (p : ℕ → Bool) (l : List ℕ) → list_all p l ≡ all_below (λ k. p (get_or l k 0)) (length l)
+unfolding all_below
+list_all_below p [] = refl
+list_all_below p (x ∷ l) = rw (list_all_below p l) (sym (all_front (λ k. p (get_or (x ∷ l) k 0)) (length l)))
 
 pub length_tabulate {ℓ} : {A : Type ℓ} (f : ℕ → A) (n : ℕ) → length (tabulate f n) ≡ n
 unfolding tabulate

@@ -1,13 +1,9 @@
 -- Laws of `count`, and the pigeonhole principle for a function onto. Assumes nothing.
-use mathlib.Core.Path.{◌≡◌, refl, sym, ap, ◌∙◌}
-use mathlib.Core.Logic.{◌≢◌, by_cases}
-use mathlib.Core.Bool.{Bool, true, false, not, ◌&&◌, true≢false, false≢true}
-use Prim.Native.Nat.{ℕ, zero, suc, ◌+◌, ◌≤◌, ◌<◌, zero-le}
-use native.Mathlib.Nat.{le_of_eq}
+use Rattle.std.proofs.Common.{◌≡◌, refl, sym, ap, ◌∙◌, ◌≢◌, Bool, true, false, not, ◌&&◌, true≢false, ℕ, zero, suc, ◌+◌, ◌≤◌, ◌<◌, zero-le, le_of_eq, arith, T, eqb, ltb, eqb→eq, eq-eqb, ne_eqb, lt-ltb, le-ltb}
+use mathlib.Core.Logic.{by_cases}
+use mathlib.Core.Bool.{false≢true}
 use native.Mathlib.Decide.{ℕ_discrete, dec_lt}
-use native.Mathlib.Omega.{arith}
-use lib.Dec.{T, eqb, ltb, eqb→eq, eqb_refl}
-use borrow.Author.Tests.{eq-eqb, ne_eqb, lt-ltb, le-ltb}
+use lib.Dec.{eqb_refl}
 use Rattle.counting.specs.Counts.{bit, count}
 use Rattle.counting.proofs.Pigeonhole.{Found, find, pigeonhole}
 use Rattle.counting.proofs.Pigeonhole.Found.{at, nowhere}

@@ -1,12 +1,9 @@
 -- The labelling of a permutation's orbits in the order of their lowest elements; the number of orbits as a count. Assumes nothing.
-use mathlib.Core.Path.{◌≡◌, refl, sym, ◌∙◌, ap, subst}
+use Rattle.std.proofs.Common.{◌≡◌, refl, sym, ◌∙◌, ap, subst, Bool, true, ◌&&◌, ℕ, zero, suc, ◌≤◌, ◌<◌, min, le_antisymm, arith, leb, leb→le, le→leb}
 use mathlib.Core.Logic.{by_cases}
-use mathlib.Core.Bool.{Bool, true, ◌&&◌, and-eq-true_iff}
-use Prim.Native.Nat.{ℕ, zero, suc, ◌≤◌, ◌<◌, min}
-use native.Mathlib.Nat.{le_antisymm, min-eq_left, min-eq_right}
+use mathlib.Core.Bool.{and-eq-true_iff}
+use native.Mathlib.Nat.{min-eq_left, min-eq_right}
 use native.Mathlib.Decide.{ℕ_discrete, dec_le}
-use native.Mathlib.Omega.{arith}
-use lib.Dec.{leb, leb→le, le→leb}
 use Rattle.counting.specs.Counts.{count}
 use Rattle.counting.specs.Orbits.{Perm, iter, Reach, Orbits}
 use Rattle.counting.proofs.Counts.{from_t, to_t, count_lt, count_one_one, count_onto}

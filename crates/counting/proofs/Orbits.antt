@@ -1,10 +1,7 @@
 -- Labels that a permutation keeps, the number of its orbits, and renumbering. Assumes nothing.
-use mathlib.Core.Path.{◌≡◌, refl, sym, ◌∙◌, ap, subst}
-use mathlib.Core.Logic.{◌≢◌, by_cases}
-use Prim.Native.Nat.{ℕ, zero, suc, ◌≤◌, ◌<◌}
-use native.Mathlib.Nat.{le_antisymm}
+use Rattle.std.proofs.Common.{◌≡◌, refl, sym, ◌∙◌, ap, subst, ◌≢◌, ℕ, zero, suc, ◌≤◌, ◌<◌, le_antisymm, arith}
+use mathlib.Core.Logic.{by_cases}
 use native.Mathlib.Decide.{ℕ_discrete}
-use native.Mathlib.Omega.{arith}
 use Rattle.counting.specs.Orbits.{Perm, Bijection, iter, Reach, Orbits}
 use Rattle.counting.proofs.Pigeonhole.{Sent, Apart, pigeonhole}
 use Rattle.counting.proofs.Reach.{iter_below}

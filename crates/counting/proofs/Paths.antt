@@ -1,10 +1,7 @@
 -- Directed paths: joined, cut, decided; a long path holds a circle; where there is no circle, longest paths exist. Assumes nothing.
-use mathlib.Core.Path.{◌≡◌, refl, sym, ◌∙◌, subst}
-use mathlib.Core.Logic.{◌≢◌, by_cases}
-use Prim.Native.Nat.{ℕ, zero, suc, ◌+◌, ◌-◌, ◌≤◌, ◌<◌}
-use native.Mathlib.Nat.{add-zero, add-suc}
+use Rattle.std.proofs.Common.{◌≡◌, refl, sym, ◌∙◌, subst, ◌≢◌, ℕ, zero, suc, ◌+◌, ◌-◌, ◌≤◌, ◌<◌, add-zero, add-suc, arith}
+use mathlib.Core.Logic.{by_cases}
 use native.Mathlib.Decide.{ℕ_discrete, dec_lt}
-use native.Mathlib.Omega.{arith}
 use Rattle.counting.specs.Paths.{Path, Circle, Longest}
 use Rattle.counting.specs.Paths.Path.{here, more}
 use Rattle.counting.proofs.Pigeonhole.{Found, find, pigeonhole, Apart}

@@ -1,9 +1,7 @@
 -- Bounded search, and the pigeonhole principle for a relation. Assumes nothing.
-use mathlib.Core.Path.{◌≡◌, refl, subst}
+use Rattle.std.proofs.Common.{◌≡◌, refl, subst, ℕ, zero, suc, ◌≤◌, ◌<◌, zero-le, suc-le-suc, arith}
 use mathlib.Core.Logic.{by_cases}
-use Prim.Native.Nat.{ℕ, zero, suc, ◌≤◌, ◌<◌, zero-le, suc-le-suc}
 use native.Mathlib.Decide.{ℕ_discrete}
-use native.Mathlib.Omega.{arith}
 
 -- a decided statement holds at the lowest i below n, or at none
 pub data Found (P : ℕ → Type 0) (n : ℕ) : Type 0 where

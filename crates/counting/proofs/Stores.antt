@@ -1,10 +1,6 @@
 -- What stands in an array, and after a store. Assumes nothing.
-use Prim.Native.Nat.{ℕ, ◌<◌}
-use mathlib.Core.Path.{◌≡◌}
-use mathlib.Core.List.{List}
+use Rattle.std.proofs.Common.{ℕ, ◌<◌, ◌≡◌, List, get_or, set, length, get_or-set_same, get_or-set_other}
 use native.Mathlib.Decide.{ℕ_discrete}
-use lib.ListN.{get_or, set, length}
-use lib.Seq.{get_or-set_same, get_or-set_other}
 
 pub data Stored {A : Type 0} (l : List A) (i : ℕ) (x : A) (j : ℕ) (z : A) : Type 0 where
   here : j ≡ i → get_or (set l i x) j z ≡ x → Stored l i x j z

@@ -1,22 +1,11 @@
--- `clauses::all_join` meets its contract. The edges before k join two vertices. Assumes nothing.
-use Rattle.std.proofs.Common.{rules}
-use mathlib.Core.Path.{refl, sym, ◌∙◌}
-use Rattle.counting.specs.Below.{all_below}
-use Rattle.clauses.specs.Inner.{joins_at}
-use Rattle.counting.proofs.Below.{all_more, all_fails, all_over}
+use Rattle.std.proofs.Common.{◌∙◌, eqb, ltb, not, ◌&&◌, take, rules, tests, arith}
+use Rattle.std.proofs.lemmas.Iterator.{YieldsList-from_slice, YieldsList-from_zip}
+use Rattle.std.proofs.lemmas.Iterator.Search.{all_from_yields_List}
+use Rattle.clauses.proofs.Below.{joins_pairs}
 use Rattle.clauses.proofs.all_join.Goals as goal
 
-pub loop-k-init : goal.loop-k-init
-unfolding all_below
-loop-k-init c = (search rules, refl)
-
-pub returns-then-not-joins : goal.returns-then-not-joins
-unfolding joins_at
-returns-then-not-joins c = sym (all_fails _ _ _ c.loop-k-test.true (sym c.joins.ensures ∙ c.if-not-joins.true))
-
-pub loop-k-preserved : goal.loop-k-preserved
-unfolding joins_at
-loop-k-preserved c = (search rules, all_more _ _ c.loop-k.invariant.1 (sym c.joins.ensures ∙ c.if-not-joins.false))
-
 pub returns : goal.returns
-returns c = all_over _ _ _ c.loop-k.invariant.1 c.loop-k.invariant.0 c.loop-k-test.false
+returns c =
+    let a = c.args in
+    all_from_yields_List (λ p. ltb p.0 a.n && ltb p.1 a.n && not (eqb p.0 p.1)) c.all.new.self _ _ c.all.ensures.ran (YieldsList-from_zip (YieldsList-from_slice (take a.m a.tails.now) cc) (YieldsList-from_slice (take a.m a.heads.now) cc)) (λ x b q k. search (rules, tests))
+    ∙ joins_pairs a.n a.m a.tails.now a.heads.now (omega arith) (omega arith)

@@ -1,10 +1,6 @@
-use Prim.Native.Nat.{◌≤◌, ◌-◌, ◌*◌}
-use mathlib.Core.Path.{◌≡◌}
+use Rattle.std.proofs.Common.{◌≡◌, ◌*◌}
 use Rattle.clauses.specs.Inner.{dart_table, walk_of}
 use Rattle.clauses.proofs.walks.Given as goal
 
 abbrev pub invariant-loop-k : goal.invariant-loop-k
-invariant-loop-k l = (l.k ≤ l.m) × (l.walk ≡ dart_table (walk_of l.nexts) (2 * l.k))
-
-abbrev pub decreases-loop-k : goal.decreases-loop-k
-decreases-loop-k l = l.m - l.k
+invariant-loop-k l = l.walk ≡ dart_table (walk_of l.nexts) (2 * l.k)
