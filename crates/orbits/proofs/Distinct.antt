@@ -1,16 +1,10 @@
 -- `is_permutation` says whether the table permutes the elements below `size`. Assumes nothing.
-use Prim.Native.Nat.{ℕ, zero, suc, ◌+◌, ◌≤◌, ◌<◌}
-use mathlib.Core.Path.{◌≡◌, refl, sym, ap, ◌∙◌}
+use Rattle.std.proofs.Common.{ℕ, zero, suc, ◌+◌, ◌≤◌, ◌<◌, ◌≡◌, refl, sym, ap, ◌∙◌, Bool, true, false, not, ◌&&◌, List, arith, below_more, ltb-true, leb-true, lt-ltb, le-leb, leb, ltb, get_or, set, length, length-set, replicate, get_or-set_other}
 use mathlib.Core.Logic.{by_cases}
-use mathlib.Core.Bool.{Bool, true, false, not, ◌&&◌, and-eq-true_iff}
-use mathlib.Core.List.{List}
+use mathlib.Core.Bool.{and-eq-true_iff}
 use native.Mathlib.Decide.{ℕ_discrete, dec_lt}
-use native.Mathlib.Omega.{arith}
-use borrow.Author.Count.{below_more}
-use borrow.Author.Tests.{ltb-true, leb-true, lt-ltb, le-leb, not-true}
-use lib.Dec.{leb, ltb}
-use lib.ListN.{get_or, set, length, length-set, replicate, length-replicate}
-use lib.Seq.{get_or-set_other}
+use borrow.Author.Tests.{not-true}
+use lib.ListN.{length-replicate}
 use Rattle.counting.specs.Orbits.{Perm}
 use Rattle.counting.proofs.Iterate.{by_bool, clash}
 use Rattle.orbits.specs.Tables.{permutes_from, is_permutation}

@@ -1,9 +1,5 @@
 -- The definitions, computed on whole tables. Assumes nothing.
-use Prim.Native.Nat.{ℕ, zero, suc, ◌+◌}
-use mathlib.Core.Path.{◌≡◌, refl}
-use mathlib.Core.Bool.{true, false}
-use mathlib.Core.List.{List, [], ◌∷◌, ◌++◌}
-use lib.ListN.{replicate}
+use Rattle.std.proofs.Common.{ℕ, zero, suc, ◌+◌, ◌≡◌, refl, true, false, List, [], ◌∷◌, ◌++◌, replicate}
 use Rattle.orbits.specs.Tables.{unnumbered_below, walk_from, trace_from, traced, permutes_from, is_permutation}
 
 two_orbits : traced 4 ((2 ∷ 3 ∷ 0 ∷ 1 ∷ []) ++ replicate 508 9) ≡ record { count = 2; orbit = (0 ∷ 1 ∷ 0 ∷ 1 ∷ []) ++ replicate 508 0 }

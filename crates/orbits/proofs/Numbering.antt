@@ -1,14 +1,8 @@
 -- Of a permutation `traced` has the orbits. Assumes nothing.
-use Prim.Native.Nat.{ℕ, zero, suc, ◌+◌, ◌-◌, ◌≤◌, ◌<◌}
-use mathlib.Core.Path.{◌≡◌, refl, sym, ap, ◌∙◌}
-use mathlib.Core.Logic.{inl}
-use mathlib.Core.List.{List, ◌++◌}
+use Rattle.std.proofs.Common.{ℕ, zero, suc, ◌+◌, ◌-◌, ◌≤◌, ◌<◌, ◌≡◌, refl, sym, ap, ◌∙◌, inl, List, ◌++◌, arith, eq-eqb, ne_eqb, le-leb, eqb, leb, get_or, set, length, length-append, replicate, get_or-append-add}
 use native.Mathlib.Decide.{ℕ_discrete}
-use native.Mathlib.Omega.{arith}
-use borrow.Author.Tests.{eq-eqb, ne_eqb, le-leb, lt-leb}
-use lib.Dec.{eqb, leb}
-use lib.ListN.{get_or, set, length, length-append, replicate, get_or-replicate, length-replicate, get_or-append}
-use lib.Seq.{get_or-append-add}
+use borrow.Author.Tests.{lt-leb}
+use lib.ListN.{get_or-replicate, length-replicate, get_or-append}
 use Rattle.counting.specs.Orbits.{Perm, iter, Orbits}
 use Rattle.counting.proofs.Iterate.{by_bool}
 use Rattle.counting.proofs.Reach.{iter_below, returns}

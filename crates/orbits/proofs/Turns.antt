@@ -1,57 +1,57 @@
 -- A turn of each loop: what is left to do gives the same as before. Assumes nothing.
-use Prim.Native.Nat.{ℕ, suc, ◌+◌, ◌-◌, ◌≤◌, ◌<◌}
-use mathlib.Core.Path.{◌≡◌, sym, ap, ◌∙◌}
-use mathlib.Core.Bool.{true, false}
-use mathlib.Core.List.{List, ◌++◌}
-use native.Mathlib.Omega.{arith}
-use borrow.Author.Tests.{eq-eqb, ne_eqb}
-use lib.Dec.{leb}
-use lib.ListN.{get_or, set, replicate, length-replicate, replicate-append-replicate}
-use lib.Seq.{set_at, append_snoc}
-use Rattle.orbits.specs.declared.Traced.{Traced}
-use Rattle.orbits.specs.Tables.{unnumbered_below, walk_from, trace_from}
+use Rattle.std.proofs.Common.{ℕ, suc, ◌+◌, ◌-◌, ◌≤◌, ◌<◌, ◌≡◌, List, ◌++◌, arith, eq-eqb, ne_eqb, get_or, set, replicate, drop, refl, take, length, length-take-le, ◌≢◌, le-leb}
+use lib.ListN.{length-replicate}
+use borrow.Author.Tests.{lt-leb}
+use mathlib.Core.Bool.{or-true}
+use Rattle.std.proofs.lemmas.List.{drop-replicate}
+use Rattle.orbits.specs.Tables.{unnumbered_below, walk_from, trace_from, traced}
 
-marked_more : (e m : ℕ) → set {A = ℕ} (replicate e 512 ++ replicate (suc m) 0) e 512 ≡ replicate (e + 1) 512 ++ replicate m 0
-marked_more e m =
-    set_at (replicate e 512) 0 (replicate m 0) 512 e (length-replicate e 512) ∙ sym (append_snoc (replicate e 512) 512 (replicate m 0))
-    ∙ ap (λ (l : List ℕ). l ++ replicate m 0) (replicate-append-replicate e 1 512)
-
-pub unnumbered_more : (e : ℕ) → e < 512 → set (unnumbered_below e) e 512 ≡ unnumbered_below (e + 1)
+pub unnumbered_filled : (size : ℕ) (part : List ℕ) → size ≤ 512 → part ≡ replicate (length (take {A = ℕ} size (replicate 512 0))) 512 → part ++ drop size (replicate 512 0) ≡ unnumbered_below size
 unfolding unnumbered_below
-unnumbered_more e h = let z : 512 - e ≡ suc (512 - (e + 1)) = omega arith in rw z (marked_more e (512 - (e + 1)))
+unnumbered_filled size part h e =
+    rw (e, length-take-le {A = ℕ} size (replicate 512 0) (omega (arith, length-replicate {A = ℕ} 512 0)), drop-replicate {X = ℕ} size 512 0) refl
 
-pub walk_none : (n size : ℕ) (step : List ℕ) (e f at : ℕ) (orbit : List ℕ) → walk_from (n - 0) size step e f at orbit ≡ walk_from n size step e f at orbit
-walk_none n size step e f at orbit = let z : n - 0 ≡ n = omega arith in rw z
-
-module _ (n i size : ℕ) (step : List ℕ) (e f at : ℕ) (orbit all : List ℕ) (rest : walk_from (n - i) size step e f at orbit ≡ all) where
-  pub walk_over : n ≤ i → orbit ≡ all
+module _ (n i size : ℕ) (step : List ℕ) (e f at : ℕ) (orbit : List ℕ) where
+  pub walk_over : n ≤ i → walk_from (n - i) size step e f at orbit ≡ orbit
   unfolding walk_from
-  walk_over h = let z : n - i ≡ 0 = omega arith in rw z at rest
+  walk_over h = let z : n - i ≡ 0 = omega arith in rw z refl
 
-  module _ (h : i < n) (to : ℕ) (entry : to ≡ get_or step at 0) where
-    pub walk_round : to ≡ e → set orbit at f ≡ all
+  module _ (h : i < n) where
+    pub walk_round : get_or step at 0 ≡ e → walk_from (n - i) size step e f at orbit ≡ set orbit at f
     unfolding walk_from
-    walk_round q = let z : n - i ≡ suc (n - (i + 1)) = omega arith in rw (z, ← entry, eq-eqb to e q) at rest
+    walk_round q = let z : n - i ≡ suc (n - (i + 1)) = omega arith in rw (z, eq-eqb (get_or step at 0) e q) refl
 
-    module _ (q : to ≡ e → ⊥) where
-      pub walk_out : leb size to ≡ true → set orbit at f ≡ all
-      unfolding walk_from
-      walk_out l = let z : n - i ≡ suc (n - (i + 1)) = omega arith in rw (z, ← entry, ne_eqb to e q, l) at rest
+    pub walk_out : size ≤ get_or step at 0 → walk_from (n - i) size step e f at orbit ≡ set orbit at f
+    unfolding walk_from
+    walk_out l = let z : n - i ≡ suc (n - (i + 1)) = omega arith in rw (z, le-leb size (get_or step at 0) l, or-true) refl
 
-      pub walk_more : leb size to ≡ false → walk_from (n - (i + 1)) size step e f to (set orbit at f) ≡ all
-      unfolding walk_from
-      walk_more l = let z : n - i ≡ suc (n - (i + 1)) = omega arith in rw (z, ← entry, ne_eqb to e q, l) at rest
+    pub walk_more : get_or step at 0 ≢ e → get_or step at 0 < size
+        → walk_from (n - i) size step e f at orbit ≡ walk_from (n - (i + 1)) size step e f (get_or step at 0) (set orbit at f)
+    unfolding walk_from
+    walk_more q l = let z : n - i ≡ suc (n - (i + 1)) = omega arith in rw (z, ne_eqb (get_or step at 0) e q, lt-leb size (get_or step at 0) l) refl
 
-module _ (size e : ℕ) (step : List ℕ) (f : ℕ) (orbit : List ℕ) (all : Traced) (rest : trace_from (size - e) size step e f orbit ≡ all) where
-  pub trace_over : size ≤ e → record { count = f; orbit = orbit } ≡ all
+module _ (size e : ℕ) (step : List ℕ) (f : ℕ) (orbit : List ℕ) where
+  pub trace_over : size ≤ e → trace_from (size - e) size step e f orbit ≡ record { count = f; orbit = orbit }
   unfolding trace_from
-  trace_over h = let z : size - e ≡ 0 = omega arith in rw z at rest
+  trace_over h = let z : size - e ≡ 0 = omega arith in rw z refl
 
   module _ (h : e < size) where
-    pub trace_new : get_or orbit e 0 ≡ 512 → (orbit' : List ℕ) → orbit' ≡ walk_from size size step e f e orbit → trace_from (size - (e + 1)) size step (e + 1) (f + 1) orbit' ≡ all
+    pub trace_new : get_or orbit e 0 ≡ 512 → trace_from (size - e) size step e f orbit ≡ trace_from (size - (e + 1)) size step (e + 1) (f + 1) (walk_from size size step e f e orbit)
     unfolding trace_from
-    trace_new q orbit' w = let z : size - e ≡ suc (size - (e + 1)) = omega arith in rw w (rw (z, eq-eqb (get_or orbit e 0) 512 q) at rest)
+    trace_new q = let z : size - e ≡ suc (size - (e + 1)) = omega arith in rw (z, eq-eqb (get_or orbit e 0) 512 q) refl
 
-    pub trace_old : (get_or orbit e 0 ≡ 512 → ⊥) → trace_from (size - (e + 1)) size step (e + 1) f orbit ≡ all
+    pub trace_old : get_or orbit e 0 ≢ 512 → trace_from (size - e) size step e f orbit ≡ trace_from (size - (e + 1)) size step (e + 1) f orbit
     unfolding trace_from
-    trace_old q = let z : size - e ≡ suc (size - (e + 1)) = omega arith in rw (z, ne_eqb (get_or orbit e 0) 512 q) at rest
+    trace_old q = let z : size - e ≡ suc (size - (e + 1)) = omega arith in rw (z, ne_eqb (get_or orbit e 0) 512 q) refl
+
+module _ (size : ℕ) (step : List ℕ) where
+  pub traced_none : 512 < size → traced size step ≡ record { count = 0; orbit = replicate 512 0 }
+  unfolding traced
+  traced_none h = rw (lt-leb size 512 h) refl
+
+  pub traced_all : size ≤ 512 → traced size step ≡ trace_from (size - 0) size step 0 0 (unnumbered_below size)
+  unfolding traced
+  traced_all h = let z : size - 0 ≡ size = omega arith in rw (le-leb size 512 h, z) refl
+
+-- a turn of each loop, and how they begin and end
+pub ruleset turns = (walk_over, walk_round, walk_out, walk_more, trace_over, trace_new, trace_old, traced_none, traced_all)

@@ -1,12 +1,7 @@
 -- The walk round one orbit, and the orbits so far. Assumes nothing.
-use Prim.Native.Nat.{ℕ, suc, ◌+◌, ◌≤◌, ◌<◌}
-use mathlib.Core.Path.{◌≡◌, refl, sym, ap, ◌∙◌}
-use mathlib.Core.Logic.{◌⊎◌, inl, inr, ⊎_elim, by_cases}
-use mathlib.Core.List.{List}
+use Rattle.std.proofs.Common.{ℕ, suc, ◌+◌, ◌≤◌, ◌<◌, ◌≡◌, refl, sym, ap, ◌∙◌, ◌⊎◌, inl, inr, ⊎_elim, List, arith, below_more, get_or, set, length, length-set}
+use mathlib.Core.Logic.{by_cases}
 use native.Mathlib.Decide.{ℕ_discrete}
-use native.Mathlib.Omega.{arith}
-use borrow.Author.Count.{below_more}
-use lib.ListN.{get_or, set, length, length-set}
 use Rattle.counting.specs.Orbits.{Perm, iter, Reach}
 use Rattle.counting.proofs.Iterate.{around}
 use Rattle.counting.proofs.Reach.{iter_below, reach_below, reach_refl, reach_trans, reach_sym}

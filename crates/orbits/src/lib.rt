@@ -4,8 +4,6 @@
 ghost use Rattle.std.specs.Prelude.{◌≡◌, ◌<◌, ◌≤◌};
 ghost use Rattle.orbits.specs.Tables.{unnumbered_below, traced};
 
-use counting::wide;
-
 // The number of each element's orbit, and how many orbits there are.
 #[derive(Clone, Copy)]
 pub struct Traced {
@@ -13,7 +11,7 @@ pub struct Traced {
     pub orbit: [u16; 512],
 }
 
-// Stands for the number of an element that has none yet.
+// Stands for the number of an element that has none yet. The table is handed out as it is: one of `Option<u16>` took twice the time.
 const NONE: u16 = 512;
 
 // No number yet for the elements below `size`, 0 past them.
@@ -22,17 +20,14 @@ fn unnumbered(size: usize) -> [u16; 512]
     ensures { result ≡ unnumbered_below size }
 {
     let mut orbit = [0; 512];
-    let mut e = 0;
-    while e < size {
-        orbit[e] = NONE;
-        e += 1;
-    }
+    orbit[..size].fill(NONE);
     orbit
 }
 
 // The orbits of the elements below `size`, numbered from 0 in the order of their lowest elements; entries past the last element are 0.
 // A walk stops at the element it started from. Where the table is no permutation it stops too where it leaves the elements, or
 // after `size` steps. More than 512 elements have no orbits.
+#[tactic(auto, using(crate::proofs::Turns::turns))]
 pub fn trace(size: usize, step: &[u16; 512]) -> Traced
     ensures { result ≡ traced size step.now }
 {
@@ -45,17 +40,16 @@ pub fn trace(size: usize, step: &[u16; 512]) -> Traced
     let mut orbit = unnumbered(size);
     let mut e = 0;
     let mut f: usize = 0;
+    // No `for`: the count is yielded by `break`, the form that the specification names.
     let count = loop {
         if size <= e {
             break f;
         }
         if orbit[e] == NONE {
             let mut at = e;
-            let mut steps = 0;
-            while steps < size {
+            for _step in 0..size {
                 orbit[at] = f as u16;
-                at = wide(step[at]);
-                steps += 1;
+                at = usize::from(step[at]);
                 if at == e || size <= at {
                     break;
                 }

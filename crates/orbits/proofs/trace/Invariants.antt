@@ -3,11 +3,8 @@ use Rattle.std.proofs.Common.{◌≡◌, ◌≤◌, ◌<◌, ◌-◌}
 use Rattle.orbits.specs.Tables.{walk_from, trace_from, traced}
 use Rattle.orbits.proofs.trace.Given as goal
 
-abbrev pub invariant-loop-steps : goal.invariant-loop-steps
-invariant-loop-steps l = (l.steps ≤ l.size) × (l.at < l.size) × (walk_from (l.size - l.steps) l.size l.step l.e l.f l.at l.orbit ≡ walk_from l.size l.size l.step l.e l.f l.e l.initial.orbit)
-
-abbrev pub decreases-loop-steps : goal.decreases-loop-steps
-decreases-loop-steps l = l.size - l.steps
+abbrev pub invariant-loop-step : goal.invariant-loop-step
+invariant-loop-step l = (l.at < l.size) × (walk_from (l.size - l._step) l.size l.step l.e l.f l.at l.orbit ≡ walk_from l.size l.size l.step l.e l.f l.e l.initial.orbit)
 
 abbrev pub invariant-loop-e : goal.invariant-loop-e
 invariant-loop-e l = (l.e ≤ l.size) × (l.f ≤ l.e) × (trace_from (l.size - l.e) l.size l.step l.e l.f l.orbit ≡ traced l.size l.step)
