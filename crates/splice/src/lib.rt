@@ -4,9 +4,8 @@
 ghost use Rattle.std.specs.Prelude.{◌≡◌, map, ◌≤◌, ◌<◌, length};
 ghost use Rattle.edit.specs.Changes.{renamed, replace_dart, insert_dart, remove_dart};
 
-use counting::wide;
-
 // `x`, but `new` where it is `old`.
+#[tactic(auto, unfolding(edit::specs::Changes::renamed))]
 fn renamed(x: u16, old: u16, new: u16) -> u16
     ensures { result ≡ renamed old new x }
 {
@@ -18,37 +17,38 @@ pub fn rename(table: &mut [u16], old: u16, new: u16)
     requires { length table.old ≤ 512 }
     ensures { table.new ≡ map (renamed old new) table.old }
 {
-    let mut i = 0;
-    while i < table.len() {
-        table[i] = renamed(table[i], old, new);
-        i += 1;
+    for dart in table.iter_mut() {
+        *dart = renamed(*dart, old, new);
     }
 }
 
 // Dart `new` takes the place of dart `old` in its ring.
+#[tactic(auto, unfolding(edit::specs::Changes::replace_dart))]
 pub fn replace_dart(nexts: &mut [u16; 512], old: u16, new: u16)
     requires { (length nexts.old ≡ 512) × (old < 512) × (new < 512) }
     ensures { nexts.new ≡ replace_dart old new nexts.old }
 {
     rename(nexts, old, new);
-    nexts[wide(new)] = nexts[wide(old)];
+    nexts[usize::from(new)] = nexts[usize::from(old)];
 }
 
 // Dart `new` comes just after dart `d` clockwise.
+#[tactic(auto, unfolding(edit::specs::Changes::insert_dart))]
 pub fn insert_dart(nexts: &mut [u16; 512], new: u16, d: u16)
     requires { (length nexts.old ≡ 512) × (new < 512) × (d < 512) }
     ensures { nexts.new ≡ insert_dart new d nexts.old }
 {
-    let at = wide(d);
-    nexts[wide(new)] = nexts[at];
+    let at = usize::from(d);
+    nexts[usize::from(new)] = nexts[at];
     nexts[at] = new;
 }
 
 // Dart `d` leaves its ring.
+#[tactic(auto, unfolding(edit::specs::Changes::remove_dart))]
 pub fn remove_dart(nexts: &mut [u16; 512], d: u16)
     requires { (length nexts.old ≡ 512) × (d < 512) }
     ensures { nexts.new ≡ remove_dart d nexts.old }
 {
-    let next = nexts[wide(d)];
+    let next = nexts[usize::from(d)];
     rename(nexts, d, next);
 }

@@ -1,12 +1,7 @@
-use Prim.Native.Nat.{◌-◌, ◌≤◌}
-use mathlib.Core.Path.{◌≡◌}
-use lib.ListN.{length}
+-- The entries before the index are renamed, the others are as they were.
+use Rattle.std.proofs.Common.{◌≡◌, ◌++◌, map, take, drop}
 use Rattle.edit.specs.Changes.{renamed}
-use Rattle.splice.proofs.Renaming.{partly}
 use Rattle.splice.proofs.rename.Given as goal
 
-abbrev pub invariant-loop-i : goal.invariant-loop-i
-invariant-loop-i l = (length l.table ≡ length l.initial.table) × (length l.table ≤ 512) × (l.i ≤ length l.table) × (l.table ≡ partly (renamed l.old l.new) l.i l.initial.table)
-
-abbrev pub decreases-loop-i : goal.decreases-loop-i
-decreases-loop-i l = length l.table - l.i
+abbrev pub invariant-loop-dart : goal.invariant-loop-dart
+invariant-loop-dart l = l.table ≡ map (renamed l.old l.new) (take l.dart-index l.initial.table) ++ drop l.dart-index l.initial.table
