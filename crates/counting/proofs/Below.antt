@@ -1,12 +1,12 @@
 -- Tests and tables over the numbers below n. Assumes nothing.
-use Rattle.std.proofs.Common.{ℕ, zero, suc, ◌<◌, ◌≡◌, refl, sym, ap, ◌∙◌, Bool, true, false, ◌&&◌, List, [], ◌∷◌, ◌++◌, arith, get_or, length, length-append}
+use Rattle.std.proofs.Common.{ℕ, zero, suc, ◌<◌, ◌≡◌, refl, sym, ap, ◌∙◌, Bool, true, false, ◌&&◌, List, [], ◌∷◌, ◌++◌, arith, get_or, length, length-append, ne_eqb, eq-eqb}
 use mathlib.Core.Logic.{by_cases}
 use Rattle.std.proofs.Math.Bool.{and-true, and-eq-true_iff, and_assoc}
 use native.Mathlib.Decide.{ℕ_discrete}
 use lib.ListN.{get_or-append}
 use lib.Seq.{get_or_at}
 use Rattle.std.specs.List.{list_all}
-use Rattle.counting.specs.Below.{all_below, tabulate}
+use Rattle.counting.specs.Below.{all_below, lowest_below, tabulate}
 
 module _ (p : ℕ → Bool) where
   pub all_none : all_below p 0 ≡ true
@@ -53,6 +53,27 @@ pub list_all_below : (p : ℕ → Bool) (l : List ℕ) → list_all p l ≡ all_
 unfolding all_below
 list_all_below p [] = refl
 list_all_below p (x ∷ l) = rw (list_all_below p l) (sym (all_front (λ k. p (get_or (x ∷ l) k 0)) (length l)))
+
+-- the lowest number below n that passes, if any does
+pub data Lowest (p : ℕ → Bool) (n : ℕ) : Type 0 where
+  found : lowest_below p n < n → p (lowest_below p n) ≡ true → ((k : ℕ) → k < lowest_below p n → p k ≡ false) → Lowest p n
+  none : lowest_below p n ≡ n → ((k : ℕ) → k < n → p k ≡ false) → Lowest p n
+
+pub lowest : (p : ℕ → Bool) (n : ℕ) → Lowest p n
+unfolding lowest_below
+lowest p zero = none refl (λ k h. absurd (omega arith))
+lowest p (suc n) = go (lowest p n) (p n) refl
+  where
+    go : Lowest p n → (b : Bool) → p n ≡ b → Lowest p (suc n)
+    go (found h t f) b e =
+        let same : lowest_below p (suc n) ≡ lowest_below p n = rw (ne_eqb (lowest_below p n) n (omega arith)) refl in
+        found (omega arith) (ap p same ∙ t) (λ k l. f k (omega arith))
+    go (none q f) true e =
+        let same : lowest_below p (suc n) ≡ n = rw (eq-eqb (lowest_below p n) n q, e) refl in
+        found (omega arith) (ap p same ∙ e) (λ k l. f k (omega arith))
+    go (none q f) false e =
+        let same : lowest_below p (suc n) ≡ suc n = rw (eq-eqb (lowest_below p n) n q, e) refl in
+        none same (λ k h. by_cases (ℕ_discrete k n) (λ r. ap p r ∙ e) (λ r. f k (omega arith)))
 
 pub length_tabulate {ℓ} : {A : Type ℓ} (f : ℕ → A) (n : ℕ) → length (tabulate f n) ≡ n
 unfolding tabulate

@@ -1,17 +1,18 @@
--- A count over the numbers below k, one number more. Assumes nothing.
-use Prim.Native.Nat.{ℕ, ◌+◌}
-use mathlib.Core.Path.{◌≡◌}
-use mathlib.Core.Bool.{Bool, true, false}
-use native.Mathlib.Numerals.{add-one}
-use native.Mathlib.Omega.{arith}
+-- The ends at a vertex, counted. Assumes nothing.
+use Rattle.std.proofs.Common.{ℕ, zero, suc, ◌≤◌, ◌≡◌, refl, ◌∙◌, Bool, List, length, get_or, take, filter, count_by, eqb, add-one, arith}
+use Rattle.std.proofs.lemmas.List.Sums.{length-filter, count_by_more_yes, count_by_more_no}
 use Rattle.counting.specs.Counts.{count}
+use Rattle.counting.proofs.Iterate.{by_bool}
 
--- the number k is counted, or passed over
-module _ (p : ℕ → Bool) (k found : ℕ) (e : found ≡ count p k) where
-  pub counted : p k ≡ true → found + 1 ≡ count p (k + 1)
-  unfolding count
-  counted t = rw (add-one k, t) (omega arith)
+-- a test of the first m entries of a list
+counted : (p : ℕ → Bool) (l : List ℕ) (m : ℕ) → m ≤ length l → count_by p (take m l) ≡ count (λ k. p (get_or l k 0)) m
+unfolding count
+counted p l zero h = refl
+counted p l (suc m) h =
+    let rest = counted p l m (omega arith) in
+    by_bool (p (get_or l m 0))
+    (λ t. rw (t, ← add-one m) (omega (arith, count_by_more_yes p l m 0 (omega arith) t)))
+    (λ f. rw (f, ← add-one m) (omega (arith, count_by_more_no p l m 0 (omega arith) f)))
 
-  pub passed_over : p k ≡ false → found ≡ count p (k + 1)
-  unfolding count
-  passed_over t = rw (add-one k, t) (omega arith)
+pub ends_at : (v m : ℕ) (ends : List ℕ) → m ≤ length ends → length (filter (λ e. eqb e v) (take m ends)) ≡ count (λ k. eqb (get_or ends k 0) v) m
+ends_at v m ends h = length-filter (λ e. eqb e v) (take m ends) ∙ counted (λ e. eqb e v) ends m h

@@ -15,15 +15,10 @@ pub fn degree(ends: &[u16; 256], m: usize, v: usize) -> usize
     requires { m ≤ 256 }
     ensures { result ≡ count (λ k. eqb (get_or ends.now k 0) v) m }
 {
-    let mut found: usize = 0;
-    let mut k = 0;
-    while k < m {
-        if wide(ends[k]) == v {
-            found += 1;
-        }
-        k += 1;
-    }
-    found
+    ends[..m]
+        .iter()
+        .filter(|&&end| usize::from(end) == v)
+        .count()
 }
 
 // The last edge gets number k, and its old entries are 0.

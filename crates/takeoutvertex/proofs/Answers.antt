@@ -1,12 +1,7 @@
 -- What take out a vertex answers, test by test; and what acceptance says. Assumes nothing.
-use Rattle.std.specs.Prelude.{Ok, Err}
-use Prim.Native.Nat.{ℕ, ◌≤◌, ◌<◌}
-use mathlib.Core.Path.{◌≡◌, refl}
-use mathlib.Core.Logic.{◌≢◌}
-use mathlib.Core.Bool.{true, false, not, ◌&&◌, ◌||◌, and-eq-true_iff}
-use native.Mathlib.Omega.{arith}
-use lib.Dec.{eqb}
-use borrow.Author.Tests.{le-leb, lt-leb, eq-eqb, ne_eqb, eqb-true}
+use Rattle.std.proofs.Common.{ℕ, ◌≤◌, ◌<◌, Option, Some, None, MatchOption, IsSome, ◌≡◌, refl, ◌≢◌, Bool, true, false, not, ◌&&◌, ◌||◌, arith, eqb, le-leb, eq-eqb, ne_eqb, eqb-true, Ok, Err}
+use mathlib.Core.Bool.{and-eq-true_iff}
+use borrow.Author.Tests.{lt-leb}
 use Rattle.counting.specs.Below.{lowest_below}
 use Rattle.answers.specs.declared.Refusal.TheVariants.{NotSound, NotInSheet, VertexNeeded}
 use Rattle.answers.specs.Answers.{refusal_number}
@@ -65,16 +60,17 @@ pub outgoing_in : (s : Sheet) (v : ℕ) → out_degree s v ≡ 1 → outgoing_ed
 unfolding out_degree outgoing_edge
 outgoing_in s v o = (lowest_passes (λ k. eqb (tail s k) v) s.edges o).0
 
--- an edge found as they are
-pub found_in : (s : Sheet) (v i : ℕ) → in_degree s v ≡ 1 → i ≡ lowest_below (λ k. eqb (head s k) v) s.edges → i < s.edges
-unfolding incoming_edge
-found_in s v i o p = omega (arith, p, incoming_in s v o)
+-- a search for an edge that is there finds it
+module _ (p : ℕ → Bool) (m : ℕ) (r : Option ℕ) (e : MatchOption r (lowest_below p m ≡ m) (λ k. (k < m) × (k ≡ lowest_below p m))) where
+  pub is_found : lowest_below p m < m → IsSome r
+  is_found h = go r e
+    where
+      go : (r : Option ℕ) → MatchOption r (lowest_below p m ≡ m) (λ k. (k < m) × (k ≡ lowest_below p m)) → IsSome r
+      go None q = absurd (omega arith)
+      go (Some k) q = refl
 
-pub found_out : (s : Sheet) (v i : ℕ) → out_degree s v ≡ 1 → i ≡ lowest_below (λ k. eqb (tail s k) v) s.edges → i < s.edges
-unfolding outgoing_edge
-found_out s v i o p = omega (arith, p, outgoing_in s v o)
-
-pub ruleset found = (found_in, found_out)
+  pub found_at : (k : ℕ) → r ≡ Some k → k ≡ lowest_below p m
+  found_at k q = (rw q at e).1
 
 -- what an accepted call was given
 pub given : (s : Sheet) (v : ℕ) → Sized s → take_out_vertex_answer s v ≡ Ok tt

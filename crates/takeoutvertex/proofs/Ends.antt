@@ -1,26 +1,23 @@
--- A search over the numbers below n, one number at a time. Assumes nothing.
-use Prim.Native.Nat.{ℕ, zero, suc, ◌+◌, ◌≤◌, ◌<◌}
-use mathlib.Core.Path.{◌≡◌, refl, sym}
-use mathlib.Core.Logic.{by_cases}
-use mathlib.Core.Bool.{Bool, true, false}
-use native.Mathlib.Decide.{ℕ_discrete}
-use native.Mathlib.Numerals.{add-one}
-use native.Mathlib.Omega.{arith}
+-- The first entry of a list that passes a test, by its number. Assumes nothing.
+use Rattle.std.proofs.Common.{ℕ, ◌≤◌, ◌<◌, ◌≡◌, refl, ◌∙◌, ap, Bool, cond, ltb, List, length, get_or, take, get_or-take, length-take-le, Option, Some, None, MatchOption, lt-ltb, le-ltb, arith}
+use Rattle.std.specs.List.{position_or_len}
+use Rattle.std.proofs.lemmas.List.Sums.{position_or_len_is}
 use Rattle.counting.specs.Below.{lowest_below}
-use Rattle.counting.proofs.Counts.{eqb_same, eqb_other}
+use Rattle.counting.proofs.Below.{Lowest, lowest}
+use Rattle.counting.proofs.Below.Lowest.{found, none}
 
--- no number below k passes
-module _ (p : ℕ → Bool) (k : ℕ) (e : lowest_below p k ≡ k) where
-  pub none_more : p k ≡ false → lowest_below p (k + 1) ≡ k + 1
-  unfolding lowest_below
-  none_more t = rw (add-one k, e, eqb_same k, t) (omega arith)
+module _ (p : ℕ → Bool) (l : List ℕ) (m : ℕ) (h : m ≤ length l) where
+  place : Lowest (λ k. p (get_or l k 0)) m → position_or_len p (take m l) ≡ lowest_below (λ k. p (get_or l k 0)) m
+  place (found b t f) =
+      position_or_len_is p (take m l) _ 0 (omega (arith, length-take-le m l h)) (λ k g. ap p (get_or-take m l k 0 (omega arith)) ∙ f k g) (λ _. ap p (get_or-take m l _ 0 b) ∙ t)
+  place (none q f) =
+      position_or_len_is p (take m l) _ 0 (omega (arith, length-take-le m l h)) (λ k g. ap p (get_or-take m l k 0 (omega arith)) ∙ f k (omega arith))
+      (λ g. absurd (omega (arith, length-take-le m l h)))
 
-  pub first_found : p k ≡ true → (n : ℕ) → k < n → k ≡ lowest_below p n
-  unfolding lowest_below
-  first_found t zero h = absurd (omega arith)
-  first_found t (suc n) h = by_cases (ℕ_discrete k n)
-      (λ q. rw (← q, e, eqb_same k, t) refl)
-      (λ q. let same = first_found t n (omega arith) in rw (← same, eqb_other {d = n} {e = k} q) refl)
-
-  pub none_found : (n : ℕ) → k ≤ n → n ≤ k → n ≡ lowest_below p n
-  none_found n h g = let z : n ≡ k = omega arith in rw z (sym e)
+  pub placed : (r : Option ℕ) → r ≡ cond (ltb (position_or_len p (take m l)) (length (take m l))) (Some (position_or_len p (take m l))) None
+      → let least = lowest_below (λ k. p (get_or l k 0)) m in MatchOption r (least ≡ m) (λ k. (k < m) × (k ≡ least))
+  placed r e = go (lowest (λ k. p (get_or l k 0)) m)
+    where
+      go : Lowest (λ k. p (get_or l k 0)) m → let least = lowest_below (λ k. p (get_or l k 0)) m in MatchOption r (least ≡ m) (λ k. (k < m) × (k ≡ least))
+      go (found b t f) = rw (e, place (found b t f), length-take-le m l h, lt-ltb _ m b) (b, refl)
+      go (none q f) = rw (e, place (none q f), length-take-le m l h, le-ltb (lowest_below (λ k. p (get_or l k 0)) m) m (omega arith)) q

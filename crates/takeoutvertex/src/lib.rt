@@ -1,29 +1,21 @@
 // Take out a vertex that has one incoming and one outgoing edge.
 #![tactic(auto)]
 
-ghost use Rattle.std.specs.Prelude.{◌≡◌, ◌≤◌, ◌<◌, eqb, get_or};
+ghost use Rattle.std.specs.Prelude.{◌≡◌, ◌≤◌, ◌<◌, eqb, get_or, MatchOption};
 ghost use Rattle.counting.specs.Below.{lowest_below};
 ghost use Rattle.edit.specs.Changes.{last_vertex_to, take_out_vertex};
 ghost use Rattle.edit.specs.Calls.{in_degree, out_degree, take_out_vertex_answer, take_out_vertex_call};
 
 use answers::Refusal;
-use counting::wide;
 use sheet::Sheet;
 use takeoutedge::{degree, last_edge_to};
 
-// The lowest of the first m edges whose end is at vertex v, or m.
-fn lowest(ends: &[u16; 256], m: usize, v: usize) -> usize
+// The lowest of the first m edges whose end is at vertex v.
+fn lowest(ends: &[u16; 256], m: usize, v: usize) -> Option<usize>
     requires { m ≤ 256 }
-    ensures { result ≡ lowest_below (λ k. eqb (get_or ends.now k 0) v) m }
+    ensures { let least = lowest_below (λ k. eqb (get_or ends.now k 0) v) m in MatchOption result (least ≡ m) (λ k. (k < m) × (k ≡ least)) }
 {
-    let mut k = 0;
-    while k < m {
-        if wide(ends[k]) == v {
-            return k;
-        }
-        k += 1;
-    }
-    m
+    ends[..m].iter().position(|&end| usize::from(end) == v)
 }
 
 // The last vertex gets number v.
@@ -48,7 +40,6 @@ fn last_vertex_to(s: Sheet, v: usize) -> Sheet
 
 // The sheet without vertex v: its incoming edge goes on to the head of its outgoing edge, which goes.
 // The last edge gets the freed number, then the last vertex gets number v.
-#[tactic(auto, using(crate::proofs::Answers::found))]
 fn without_vertex(s: Sheet, v: usize) -> Sheet
     requires { (v < s.vertices) × (s.vertices ≤ 128) × (s.edges ≤ 256) × (in_degree s v ≡ 1) × (out_degree s v ≡ 1) }
     ensures { result ≡ take_out_vertex s v }
@@ -56,8 +47,8 @@ fn without_vertex(s: Sheet, v: usize) -> Sheet
     let m = s.edges;
     let tails = s.tails;
     let mut heads = s.heads;
-    let i = lowest(&heads, m, v);
-    let o = lowest(&tails, m, v);
+    let i = lowest(&heads, m, v).unwrap();
+    let o = lowest(&tails, m, v).unwrap();
     heads[i] = heads[o];
     let mut nexts = s.nexts;
     splice::replace_dart(&mut nexts, (2 * o + 1) as u16, (2 * i + 1) as u16);
