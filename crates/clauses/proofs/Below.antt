@@ -1,4 +1,4 @@
--- Tables over the darts, entry by entry. Assumes nothing.
+-- Tests of a table from an entry on and of the ends of the edges, as tests of lists; and tables over the darts, entry by entry. Assumes nothing.
 use Rattle.std.proofs.Common.{ℕ, suc, ◌+◌, ◌-◌, ◌<◌, ◌≡◌, refl, sym, ◌∙◌, List, add-one, arith, get_or, set, length, replicate, zero, [], ◌∷◌, ◌≤◌, take, drop, zip, take_all, length-drop, eqb, ltb, ◌&&◌, ◌||◌, not, ap, le-ltb, lt-ltb}
 use lib.ListN.{get_or-append}
 use lib.Seq.{set_at, append_snoc}
@@ -12,6 +12,7 @@ use Rattle.clauses.specs.Inner.{zero_at, joins_at, dart_table}
 below_next : (k n : ℕ) → ltb (suc k) (suc n) ≡ ltb k n
 below_next k n = by_cases (dec_lt k n) (λ h. rw (lt-ltb k n h, lt-ltb (suc k) (suc n) (omega arith)) refl) (λ h. rw (le-ltb k n (omega arith), le-ltb (suc k) (suc n) (omega arith)) refl)
 
+-- the entries from `from` on, as a list
 rest : (from : ℕ) (table : List ℕ) → list_all (λ e. eqb e 0) (drop from table) ≡ all_below (zero_at from table) (length table)
 unfolding zero_at all_below
 rest zero table = list_all_below (λ e. eqb e 0) table ∙ all_agree _ _ (length table) (λ k _. rw (le-ltb k 0 (omega arith)) refl)

@@ -1,4 +1,4 @@
--- A turn of each loop: what is left to do gives the same as before. Assumes nothing.
+-- A turn of each loop: what is left to do, and the loops' beginnings and ends. Assumes nothing.
 use Rattle.std.proofs.Common.{ℕ, suc, ◌+◌, ◌-◌, ◌≤◌, ◌<◌, ◌≡◌, List, ◌++◌, arith, eq-eqb, ne_eqb, get_or, set, replicate, drop, refl, take, length, length-take-le, ◌≢◌, le-leb}
 use lib.ListN.{length-replicate}
 use borrow.Author.Tests.{lt-leb}
@@ -6,6 +6,7 @@ use mathlib.Core.Bool.{or-true}
 use Rattle.std.proofs.lemmas.List.{drop-replicate}
 use Rattle.orbits.specs.Tables.{unnumbered_below, walk_from, trace_from, traced}
 
+-- the first `size` entries, filled
 pub unnumbered_filled : (size : ℕ) (part : List ℕ) → size ≤ 512 → part ≡ replicate (length (take {A = ℕ} size (replicate 512 0))) 512 → part ++ drop size (replicate 512 0) ≡ unnumbered_below size
 unfolding unnumbered_below
 unnumbered_filled size part h e =

@@ -1,3 +1,4 @@
+-- `clauses::all_join` meets its contract. Assumes nothing.
 use Rattle.std.proofs.Common.{◌∙◌, eqb, ltb, not, ◌&&◌, take, rules, tests, arith}
 use Rattle.std.proofs.lemmas.Iterator.{YieldsList-from_slice, YieldsList-from_zip}
 use Rattle.std.proofs.lemmas.Iterator.Search.{all_from_yields_List}
