@@ -1,9 +1,8 @@
 -- Laws of `count`, and the pigeonhole principle for a function onto. Assumes nothing.
-use Rattle.std.proofs.Common.{◌≡◌, refl, sym, ap, ◌∙◌, ◌≢◌, Bool, true, false, not, ◌&&◌, true≢false, ℕ, zero, suc, ◌+◌, ◌≤◌, ◌<◌, zero-le, le_of_eq, arith, T, eqb, ltb, eqb→eq, eq-eqb, ne_eqb, lt-ltb, le-ltb}
+use Rattle.std.proofs.Common.{◌≡◌, refl, sym, ap, ◌∙◌, ◌≢◌, Bool, true, false, not, ◌&&◌, true≢false, ℕ, zero, suc, ◌+◌, ◌≤◌, ◌<◌, zero-le, le_of_eq, arith, T, eqb, ltb, eq-eqb, ne_eqb, lt-ltb, le-ltb}
 use mathlib.Core.Logic.{by_cases}
 use mathlib.Core.Bool.{false≢true}
 use native.Mathlib.Decide.{ℕ_discrete, dec_lt}
-use lib.Dec.{eqb_refl}
 use Rattle.counting.specs.Counts.{bit, count}
 use Rattle.counting.proofs.Pigeonhole.{Found, find, pigeonhole}
 use Rattle.counting.proofs.Pigeonhole.Found.{at, nowhere}
@@ -19,14 +18,10 @@ to_t {b = true} e = tt
 to_t {b = false} e = absurd (false≢true e)
 
 pub eqb_same : (d : ℕ) → eqb d d ≡ true
-eqb_same d = from_t (eqb_refl d)
+eqb_same d = eq-eqb d d refl
 
 pub eqb_other : {d e : ℕ} → e ≢ d → eqb e d ≡ false
-eqb_other {d} {e} h = go (eqb e d) refl
-  where
-    go : (b : Bool) → eqb e d ≡ b → b ≡ false
-    go true q = absurd (h (eqb→eq e d (to_t q)))
-    go false q = refl
+eqb_other h = ne_eqb _ _ h
 
 -- ---- the test p, failed at d
 
