@@ -3,9 +3,10 @@ use mathlib.Core.Path.{◌≡◌, refl, sym, ap, ◌∙◌}
 use mathlib.Core.Logic.{◌≢◌, ◌⊎◌, inl, inr, ⊎_elim, by_cases}
 use mathlib.Core.Bool.{Bool, true, false}
 use mathlib.Core.List.{List}
-use Prim.Native.Nat.{ℕ, suc, ◌+◌, ◌-◌, ◌≤◌, ◌<◌}
+use Prim.Native.Nat.{ℕ, suc, ◌+◌, ◌-◌, ◌≤◌, ◌<◌, max}
 use native.Mathlib.Decide.{ℕ_discrete}
 use native.Mathlib.Omega.{arith}
+use native.Mathlib.Numerals.{add-one}
 use lib.Dec.{eqb}
 use lib.ListN.{get_or, set, length}
 use lib.Seq.{get_or-set_other}
@@ -147,14 +148,17 @@ module _ {edges : ℕ} {to : List ℕ} (G : Graph edges to) where
       pub end_room : tail < 256
       end_room = room T.progress.queued G.within.few_nodes T.progress.waiting_in.size w end_in edge_waits
 
-      module _ (level' : List ℕ) (el : level' ≡ set level w (higher_of (get_or level w 0) d))
+      module _ (level' : List ℕ) (el : level' ≡ set level w (max (get_or level w 0) (d + 1)))
           (Ahead' : ℕ → Type 0) (split : (j : ℕ) → Ahead j → (j ≡ k) ⊎ Ahead' j) (rest : (j : ℕ) → Ahead' j → Ahead j × (j ≢ k)) where
+        raised_is : level' ≡ set level w (higher_of (get_or level w 0) (get_or level v 0))
+        raised_is = rw (T.value, ← add-one d) el
+
         turn : {queue' : List ℕ} {tail' : ℕ} → Queued G.nodes (set waiting w (get_or waiting w 0 - 1)) queue' tail'
             → ((i : ℕ) → i < tail → get_or queue' i 0 ≡ get_or queue i 0) → tail ≤ tail'
             → Turn Ahead' head v d (set waiting w (get_or waiting w 0 - 1)) level' queue' tail'
         turn Q start longer = record {
           waits = without T.waits k;
-          progress = rw (el, ← T.value) (pass_edge T.progress started k this.0 this.2 v this.1 done w ew Q);
+          progress = rw raised_is (pass_edge T.progress started k this.0 this.2 v this.1 done w ew Q);
           passed = λ i j h l e. without_kept T.waits k j (T.passed i j h l (e ∙ start i (omega (arith, T.inside))));
           left = λ j l f. ⊎_elim
               (λ e. (head, omega arith, start head T.inside ∙ T.node ∙ sym this.1 ∙ ap (λ x. get_or G.from x 0) (sym e)))
@@ -166,7 +170,7 @@ module _ {edges : ℕ} {to : List ℕ} (G : Graph edges to) where
               (T.mine j l e);
           ahead = λ j b. let (o, n) = rest j b in let (l, e, t) = T.ahead j o in (l, e, without_other T.waits n ∙ t);
           node = start head T.inside ∙ T.node;
-          value = rw (el, ← T.value) (keeps T.progress started k this.0 this.2 v this.1 done w ew v done);
+          value = rw raised_is (keeps T.progress started k this.0 this.2 v this.1 done w ew v done) ∙ T.value;
           inside = omega (arith, T.inside);
         }
 

@@ -11,9 +11,10 @@ use lib.Seq.{ext_get_or}
 use Rattle.counting.specs.Paths.{Path, Circle}
 use Rattle.counting.specs.Paths.Path.{here, more}
 use Rattle.counting.proofs.Paths.{append, circle}
-use Rattle.digraph.specs.declared.Layering.{Layering}
+use Rattle.digraph.specs.Digraph.{Layering}
 use Rattle.digraph.specs.Digraph.{Leads, Within, Leveled, flat}
-use Rattle.digraph.specs.Relaxed.{higher_of, raised, relaxed, rounds, climbs, answer, within_of, levels_of, LevelsMean}
+use Rattle.digraph.specs.Relaxed.{higher_of, raised, relaxed, rounds, climbs, answer, within_of, found, levels_of, LevelsMean}
+use Rattle.std.specs.Prelude.{Some, None}
 use Rattle.digraph.specs.Inner.{Attained}
 use Rattle.counting.proofs.Stores.{Stored, stored}
 use Rattle.counting.proofs.Stores.Stored.{here as same, apart as other}
@@ -208,12 +209,27 @@ same_layering : (x y : Layering) → x.acyclic ≡ y.acyclic → x.level ≡ y.l
 same_layering x y p q = λ i. record { acyclic = p i; level = q i }
 
 module _ (nodes edges : ℕ) (from to : List ℕ) where
-  pub outside : within_of nodes edges from to ≡ false → (r : Layering) → r ≡ record { acyclic = false; level = flat } → r ≡ levels_of nodes edges from to
+  pub outside : within_of nodes edges from to ≡ false → levels_of nodes edges from to ≡ record { acyclic = false; level = flat }
   unfolding levels_of answer
-  outside f r e = rw f e
+  outside f = rw f refl
 
-  pub right : within_of nodes edges from to ≡ true → (r : Layering) → Leveled nodes edges from to r.acyclic r.level → r ≡ levels_of nodes edges from to
+  pub right : within_of nodes edges from to ≡ true → (r : Layering) → Leveled nodes edges from to r.acyclic r.level → levels_of nodes edges from to ≡ r
   right t r L =
       let W = within_is nodes from to edges t in
-      let (p, q) = unique W _ _ L (levels_mean nodes edges from to W) in
-      same_layering r (levels_of nodes edges from to) p q
+      let (p, q) = unique W _ _ (levels_mean nodes edges from to W) L in
+      same_layering (levels_of nodes edges from to) r p q
+
+-- none is found where there is a circle, and else the levels
+pub found_none : (l : Layering) → None ≡ found l → l.acyclic ≡ false
+found_none l e = go l.acyclic refl
+  where
+    go : (b : Bool) → l.acyclic ≡ b → b ≡ false
+    go true t = let q = rw t at e in cc
+    go false f = refl
+
+pub found_some : (l : Layering) (level : List ℕ) → Some level ≡ found l → (l.acyclic ≡ true) × (level ≡ l.level)
+found_some l level e = go l.acyclic refl
+  where
+    go : (b : Bool) → l.acyclic ≡ b → (b ≡ true) × (level ≡ l.level)
+    go true t = let q = rw t at e in (refl, cc)
+    go false f = let q = rw f at e in (cc, cc)

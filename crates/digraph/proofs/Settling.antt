@@ -7,14 +7,18 @@ use Prim.Native.Nat.{ℕ, zero, suc, ◌≤◌, ◌<◌}
 use native.Mathlib.Decide.{ℕ_discrete}
 use native.Mathlib.Omega.{arith}
 use lib.ListN.{get_or}
-use borrow.Author.Tests.{eqb-true, eqb-false}
+use borrow.Author.Tests.{eqb-true, eqb-false, leb-true, leb-false}
+use lib.Dec.{leb}
+use Rattle.std.specs.Bool.{then_some}
 use Rattle.counting.specs.Paths.{Path}
 use Rattle.counting.specs.Paths.Path.{here}
 use Rattle.counting.proofs.Counts.{count_all, count_onto, count_full, count_gap}
 use Rattle.counting.proofs.Paths.{before, circle}
-use Rattle.digraph.specs.Digraph.{Leads, Leveled, flat}
+use Rattle.digraph.specs.Digraph.{Layering, Leads, Leveled, flat}
+use Rattle.digraph.specs.Relaxed.{found, levels_of}
+use Rattle.digraph.proofs.Tests.{within_true}
 use Rattle.digraph.specs.Inner.{into, ready, Waiting, Queued, Graph, Settled}
-use Rattle.digraph.proofs.Relaxation.{flat_at, flat_attained, source_in, climbs_leveled, circle_leveled}
+use Rattle.digraph.proofs.Relaxation.{flat_at, flat_attained, source_in, climbs_leveled, circle_leveled, right}
 
 module _ {edges : ℕ} {to : List ℕ} (G : Graph edges to) where
   -- before the first edge
@@ -70,3 +74,14 @@ module _ {edges : ℕ} {to : List ℕ} (G : Graph edges to) where
         let n = eqb-false (get_or waiting v 0) 0 f in
         let (a, _, _, p) = back b (omega arith) G.nodes in
         circle_leveled G.within (circle G.nodes (source_in G.within) b (omega arith) p)
+
+    -- the answer of `levels`
+    pub outcome : then_some (leb G.nodes tail) level ≡ found (levels_of G.nodes edges G.from to)
+    outcome = go (leb G.nodes tail) refl
+      where
+        is : (r : Layering) → Leveled G.nodes edges G.from to r.acyclic r.level → levels_of G.nodes edges G.from to ≡ r
+        is = right G.nodes edges G.from to (within_true G.nodes G.from to edges G.within)
+
+        go : (b : Bool) → leb G.nodes tail ≡ b → then_some b level ≡ found (levels_of G.nodes edges G.from to)
+        go true e = rw (is (record { acyclic = true; level = level }) (acyclic (leb-true _ _ e))) refl
+        go false e = rw (is (record { acyclic = false; level = flat }) (cyclic (leb-false _ _ e))) refl

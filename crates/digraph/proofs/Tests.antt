@@ -1,5 +1,5 @@
 -- The tests of `levels_of` and what they say. Assumes nothing.
-use mathlib.Core.Path.{◌≡◌, refl, sym, subst}
+use mathlib.Core.Path.{◌≡◌, refl, sym, subst, ◌∙◌}
 use mathlib.Core.Logic.{by_cases}
 use mathlib.Core.Bool.{Bool, true, false, ◌&&◌, and-eq-true_iff, true≢false}
 use mathlib.Core.List.{List}
@@ -9,6 +9,10 @@ use native.Mathlib.Omega.{arith}
 use lib.Dec.{ltb}
 use lib.ListN.{get_or}
 use borrow.Author.Tests.{ltb-true, ltb-false, leb-true, lt-ltb, le-leb}
+use Rattle.std.specs.List.{All}
+use Rattle.std.proofs.lemmas.Grind.{common_steps}
+use Rattle.std.proofs.Common.{length, take, length-take}
+use Rattle.std.proofs.lemmas.List.{get_or-take}
 use Rattle.digraph.specs.Digraph.{Within}
 use Rattle.digraph.specs.Relaxed.{joins, within_of, climbs}
 
@@ -53,13 +57,26 @@ module _ (nodes : ℕ) (from to : List ℕ) where
     unfolding within_of
     within_true w = rw (le-leb _ _ w.few_nodes, le-leb _ _ w.few_edges) (joins_true edges (λ j l. (w.from_in j l, w.to_in j l)))
 
-    -- it fails where something is out of its bounds
-    pub within_false : ¬ Within nodes edges from to → within_of nodes edges from to ≡ false
-    within_false f = go (within_of nodes edges from to) refl
+    -- the test that passes where all is within
+    pub within_met : (r : Bool) → (r ≡ true → Within nodes edges from to) → (Within nodes edges from to → r ≡ true) → r ≡ within_of nodes edges from to
+    within_met true h g = sym (within_true (h refl))
+    within_met false h g = go (within_of nodes edges from to) refl
       where
-        go : (b : Bool) → within_of nodes edges from to ≡ b → b ≡ false
-        go true t = absurd (f (within_is t))
+        go : (b : Bool) → within_of nodes edges from to ≡ b → false ≡ b
+        go true t = g (within_is t)
         go false t = refl
+
+-- an entry of the first n
+pub entry_of : (n : ℕ) (xs : List ℕ) {k v : ℕ} → k < length (take n xs) → v ≡ get_or (take n xs) k 0 → (k < n) × (v ≡ get_or xs k 0)
+entry_of n xs {k} l e = let h : k < n = omega (arith, length-take n xs) in (h, e ∙ get_or-take n xs k 0 h)
+
+-- the first ends are nodes
+module _ {nodes edges : ℕ} (ends : List ℕ) (size : length ends ≡ 256) (few : edges ≤ 256) where
+  pub ends_below : All (λ v. v < nodes) (take edges ends) → (k : ℕ) → k < edges → get_or ends k 0 < nodes
+  ends_below all k l = rw (get_or-take edges ends k 0 l) at (all k 0 (omega (arith, length-take edges ends)))
+
+  pub below_ends : ((k : ℕ) → k < edges → get_or ends k 0 < nodes) → All (λ v. v < nodes) (take edges ends)
+  below_ends below k d l = grind (arith, common_steps, below k)
 
 -- edge j leads to a higher level
 abbrev pub Climbs : List ℕ → List ℕ → List ℕ → ℕ → Type 0

@@ -7,6 +7,7 @@ use Prim.Native.Nat.{ℕ, suc, ◌+◌, ◌-◌, ◌≤◌, ◌<◌}
 use native.Mathlib.Decide.{ℕ_discrete}
 use native.Mathlib.Omega.{arith}
 use native.Mathlib.Numerals.{add-one}
+use mir.Val.{bool_byte}
 use lib.Dec.{eqb}
 use lib.ListN.{get_or, set, length, length-set, replicate}
 use lib.Seq.{get_or-set_same, get_or-set_other}
@@ -19,6 +20,15 @@ use Rattle.counting.proofs.Stores.Stored.{here as same, apart as other}
 use Rattle.digraph.specs.Digraph.{flat}
 use Rattle.digraph.specs.Inner.{into, Waiting, ready, Queued}
 use Rattle.digraph.proofs.Relaxation.{flat_size, flat_at}
+
+-- a test as a number
+pub byte_bit : (b : Bool) → bool_byte b ≡ bit b
+byte_bit true = refl
+byte_bit false = refl
+
+pub byte_small : (b : Bool) → bool_byte b ≤ 1
+byte_small true = omega arith
+byte_small false = omega arith
 
 -- ---- the counts
 

@@ -26,6 +26,11 @@ pub record Deepest (Step : ℕ → ℕ → Type 0) (v k : ℕ) : Type 0 where
 unfoldable pub flat : List ℕ
 flat = replicate 256 0
 
+-- whether there is no circle, and the levels, or `flat` where there is one
+pub record Layering : Type 0 where
+  pub acyclic : Bool
+  pub level : List ℕ
+
 -- `level` and `acyclic` are right
 pub record Leveled (nodes edges : ℕ) (from to : List ℕ) (acyclic : Bool) (level : List ℕ) : Type 0 where
   pub size : length level ≡ 256

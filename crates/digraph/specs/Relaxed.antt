@@ -1,7 +1,7 @@
 -- Levels by relaxation: a definition that computes.
-use Rattle.std.specs.Prelude.{Bool, true, false, ◌&&◌, List, ℕ, zero, suc, max, ltb, leb, get_or, set}
-use Rattle.digraph.specs.declared.Layering.{Layering}
-use Rattle.digraph.specs.Digraph.{Within, Leveled, flat}
+use Rattle.std.specs.Prelude.{Bool, true, false, ◌&&◌, Option, List, ℕ, zero, suc, max, ltb, leb, get_or, set}
+use Rattle.std.specs.Bool.{then_some}
+use Rattle.digraph.specs.Digraph.{Layering, Within, Leveled, flat}
 
 -- the first k edges join nodes
 unfoldable pub joins : ℕ → ℕ → List ℕ → List ℕ → Bool
@@ -44,6 +44,10 @@ unfoldable pub levels_of : ℕ → ℕ → List ℕ → List ℕ → Layering
 levels_of nodes edges from to =
     let level = rounds nodes edges from to in
     answer (within_of nodes edges from to && climbs edges from to level) level
+
+-- the levels, where there is no circle
+abbrev pub found : Layering → Option (List ℕ)
+found l = then_some l.acyclic l.level
 
 -- what `levels_of` means
 abbrev pub LevelsMean : Type 0

@@ -1,40 +1,27 @@
 // Levels of the nodes of a digraph: for each the most edges on a directed path to it; or the finding of a circle.
 #![tactic(auto)]
 
-ghost use Rattle.std.specs.Prelude.{◌≡◌, true, ℕ, ◌+◌, ◌≤◌, ◌<◌, get_or, length};
-ghost use Rattle.digraph.specs.Relaxed.{within_of, higher_of, levels_of};
+ghost use Rattle.std.specs.Prelude.{◌≡◌, IsTrue, ◌↔◌, true, ℕ, ◌+◌, ◌≤◌, ◌<◌, get_or, length};
+ghost use Rattle.std.specs.List.{All};
+ghost use Rattle.digraph.specs.Relaxed.{within_of, found, levels_of};
 ghost use Rattle.digraph.specs.Inner.{Chained};
 ghost use Rattle.digraph.specs.Inner.{Waiting, Queued, Underway, Onward};
 
-use counting::{bit, wide};
-
-#[derive(Clone, Copy)]
-pub struct Layering {
-    pub acyclic: bool,
-    pub level: [u16; 256],
+// Whether these ends of edges are nodes.
+fn are_nodes(ends: &[u16], nodes: usize) -> bool
+    ensures { IsTrue result ↔ All (λ v. v < nodes) ends.now }
+{
+    ends.iter().all(|&v| usize::from(v) < nodes)
 }
 
 // Whether the counts are within the arrays and each edge joins two nodes.
 fn within(nodes: usize, edges: usize, from: &[u16; 256], to: &[u16; 256]) -> bool
     ensures { result ≡ within_of nodes edges from.now to.now }
 {
-    if 256 < nodes {
+    if 256 < nodes || 256 < edges {
         return false;
     }
-    if 256 < edges {
-        return false;
-    }
-    let mut k = 0;
-    while k < edges {
-        if nodes <= wide(from[k]) {
-            return false;
-        }
-        if nodes <= wide(to[k]) {
-            return false;
-        }
-        k += 1;
-    }
-    true
+    are_nodes(&from[..edges], nodes) && are_nodes(&to[..edges], nodes)
 }
 
 // A list of edges for each node, by one end of the edges: the first edge at the node, and after each edge the next.
@@ -51,10 +38,8 @@ fn chain(edges: usize, ends: &[u16; 256]) -> Chains
 {
     let mut first = [256u16; 256];
     let mut after = [256u16; 256];
-    let mut k = edges;
-    while 0 < k {
-        k -= 1;
-        let v = wide(ends[k]);
+    for k in (0..edges).rev() {
+        let v = usize::from(ends[k]);
         after[k] = first[v];
         first[v] = k as u16;
     }
@@ -67,11 +52,8 @@ pub fn waiting_edges(edges: usize, to: &[u16; 256]) -> [u16; 256]
     ensures { Waiting edges to.now (λ j. true) result }
 {
     let mut waiting = [0u16; 256];
-    let mut k = 0;
-    while k < edges {
-        let w = wide(to[k]);
-        waiting[w] += 1;
-        k += 1;
+    for &w in &to[..edges] {
+        waiting[usize::from(w)] += 1;
     }
     waiting
 }
@@ -82,21 +64,11 @@ pub fn sources(nodes: usize, waiting: &[u16; 256], queue: &mut [u16; 256]) -> us
     ensures { Queued nodes waiting.now queue.new result }
 {
     let mut tail = 0;
-    let mut v = 0;
-    while v < nodes {
+    for v in 0..nodes {
         queue[tail] = v as u16;
-        tail += bit(waiting[v] == 0);
-        v += 1;
+        tail += usize::from(waiting[v] == 0);
     }
     tail
-}
-
-// A level, or one above d where that is more.
-fn higher(level: u16, d: u16) -> u16
-    requires { d < 65535 }
-    ensures { result ≡ higher_of level d }
-{
-    if level <= d { d + 1 } else { level }
 }
 
 // Passes the edges out of the node at `head` of the queue: the end of each is raised above that node, and goes into the queue where no
@@ -115,18 +87,18 @@ fn pass(
     requires { (head < end) × Underway edges to.now first.now after.now head waiting.old level.old queue.old end }
     ensures { Onward edges to.now first.now after.now head waiting.old level.old queue.old end (head + 1) waiting.new level.new queue.new result }
 {
-    let v = wide(queue[head]);
+    let v = usize::from(queue[head]);
     let d = level[v];
     let mut tail = end;
-    let mut k = wide(first[v]);
+    let mut k = usize::from(first[v]);
     while k < edges {
-        let w = wide(to[k]);
-        level[w] = higher(level[w], d);
+        let w = usize::from(to[k]);
+        level[w] = level[w].max(d + 1);
         let left = waiting[w] - 1;
         waiting[w] = left;
         queue[tail] = w as u16;
-        tail += bit(left == 0);
-        k = wide(after[k]);
+        tail += usize::from(left == 0);
+        k = usize::from(after[k]);
     }
     tail
 }
@@ -154,17 +126,12 @@ fn settle(
     tail
 }
 
-// The level of each of `nodes` nodes, where the edges from `from` to `to` make no circle; else, and where an end is no node, `acyclic` is
-// false and all levels are 0.
-pub fn levels(nodes: usize, edges: usize, from: &[u16; 256], to: &[u16; 256]) -> Layering
-    ensures { result ≡ levels_of nodes edges from.now to.now }
+// The level of each of `nodes` nodes, where the edges from `from` to `to` make no circle; none where they make one, and where an end is no node.
+pub fn levels(nodes: usize, edges: usize, from: &[u16; 256], to: &[u16; 256]) -> Option<[u16; 256]>
+    ensures { result ≡ found (levels_of nodes edges from.now to.now) }
 {
-    let cyclic = Layering {
-        acyclic: false,
-        level: [0u16; 256],
-    };
     if !within(nodes, edges, from, to) {
-        return cyclic;
+        return None;
     }
     let c = chain(edges, from);
     let first = c.first;
@@ -183,11 +150,5 @@ pub fn levels(nodes: usize, edges: usize, from: &[u16; 256], to: &[u16; 256]) ->
         &mut queue,
         end,
     );
-    if queued < nodes {
-        return cyclic;
-    }
-    Layering {
-        acyclic: true,
-        level,
-    }
+    (nodes <= queued).then_some(level)
 }

@@ -4,7 +4,7 @@ use mathlib.Core.Path.{◌≡◌, refl, ap, ◌∙◌}
 use mathlib.Core.List.{List}
 use native.Mathlib.Omega.{arith}
 use lib.ListN.{get_or}
-use Rattle.digraph.specs.declared.Layering.{Layering}
+use Rattle.digraph.specs.Digraph.{Layering}
 use Rattle.digraph.specs.Relaxed.{levels_of}
 use Rattle.sheet.specs.declared.Sheet.{Sheet}
 use Rattle.sheet.specs.declared.Findings.{Findings}

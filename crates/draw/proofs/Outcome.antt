@@ -12,8 +12,7 @@ use Rattle.answers.specs.Refusals.{first, answering}
 use Rattle.sheet.specs.Darts.{Sized}
 use Rattle.sheet.specs.Sound.{Sound}
 use Rattle.sheet.specs.Check.{sound, row_levels, face_table, face_count}
-use Rattle.sheet.specs.Inner as findings
-use Rattle.sheet.specs.Inner.{findings_of}
+use Rattle.sheet.specs.Inner.{findings_in, findings_of}
 use Rattle.sheet.proofs.Found.{found_is}
 use Rattle.soundness.proofs.Law.{sound_law}
 use Rattle.drawing.specs.declared.Drawing.{Drawing}
@@ -37,7 +36,7 @@ pub record Found (s : Sheet) (f : Findings) : Type 0 where
   pub count_is : f.count ≡ face_count s
 
 pub found : {s : Sheet} {f : Findings} {r : Result Findings Refusal} → Sized s → r ≡ findings_of s → r ≡ Ok f → Found s f
-unfolding findings.found
+unfolding findings_in
 found {s} z e q =
     let (t, f_is) = found_is s _ e _ q in
     record {

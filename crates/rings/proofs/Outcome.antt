@@ -1,19 +1,20 @@
 -- All vertices: their rings and levels are right; or some ring is not, or there is a circle. Assumes nothing.
 use Prim.Native.Nat.{ℕ, ◌+◌, ◌*◌, ◌≤◌, ◌<◌}
 use mathlib.Core.Path.{◌≡◌, refl, sym, ◌∙◌}
-use mathlib.Core.Bool.{true, false}
+use mathlib.Core.Bool.{Bool, true, false}
 use mathlib.Core.List.{List}
+use Rattle.std.specs.Prelude.{None}
 use native.Mathlib.Omega.{arith}
 use lib.ListN.{get_or}
-use borrow.Author.Tests.{eqb-true}
-use Rattle.counting.proofs.Iterate.{by_bool}
+use borrow.Author.Tests.{eqb-true, leb-true}
+use lib.Dec.{leb}
+use Rattle.std.specs.Bool.{then_some}
+use Rattle.counting.proofs.Iterate.{by_bool, clash}
 use Rattle.counting.proofs.Counts.{count_full}
-use Rattle.digraph.specs.declared.Layering.{Layering}
 use Rattle.digraph.specs.Digraph.{Within, flat}
+use Rattle.digraph.specs.Relaxed.{found}
 use Rattle.digraph.specs.Inner.{Waiting, Queued, ready, Settled}
-use Rattle.digraph.proofs.Tests.{within_true}
-use Rattle.digraph.proofs.Relaxation.{right}
-use Rattle.digraph.proofs.Settling.{start, acyclic, cyclic}
+use Rattle.digraph.proofs.Settling.{start, outcome}
 use Rattle.clauses.specs.Inner.{Ends, dart_table, vertex_of}
 use Rattle.clauses.proofs.Below.{dart_at_law}
 use Rattle.clauses.proofs.Tables.{tail_vertex, head_vertex}
@@ -37,9 +38,9 @@ module _ (n m : ℕ) (tails heads : List ℕ) (few : n ≤ 128) (T : Ends n m ta
   }
 
   -- a ring is not right
-  pub no_rings : (nexts : List ℕ) → (OneRingEach (2 * m) at nexts → ⊥) → (r : Layering) → r ≡ record { acyclic = false; level = flat } → r ≡ ring_levels n m tails heads nexts
+  pub no_rings : (nexts : List ℕ) → ¬ OneRingEach (2 * m) at nexts → None ≡ found (ring_levels n m tails heads nexts)
   unfolding ring_levels rings_of
-  no_rings nexts f r e = let z = rw ea at (rings_refused (2 * m) at nexts (omega (arith, T.few)) f) in rw z e
+  no_rings nexts f = let z = rw ea at (rings_refused (2 * m) at nexts (omega (arith, T.few)) f) in rw z refl
 
   module _ {waiting queue : List ℕ} {end : ℕ} (A : Waiting m heads (λ j. true) waiting) (Q : Queued n waiting queue end) {held degree : List ℕ} (E : Held (2 * m) at held) (D : Degrees (2 * m) at degree) where
     pub underway : Underway (2 * m) at held degree 0 waiting flat queue end
@@ -48,13 +49,6 @@ module _ (n m : ℕ) (tails heads : List ℕ) (few : n ≤ 128) (T : Ends n m ta
     module _ {nexts waiting' level queue' : List ℕ} {tail : ℕ} (O : PassedOn (2 * m) at nexts held 0 waiting flat queue end tail waiting' level queue' tail) where
       settled : Settled placed.graph tail waiting' level queue' tail
       settled = O.onward placed (start placed.graph A Q)
-
-      -- some vertex did not come into the queue
-      pub circle : tail < n → (r : Layering) → r ≡ record { acyclic = false; level = flat } → r ≡ ring_levels n m tails heads nexts
-      unfolding ring_levels
-      circle h r e =
-          let q = right n m tails heads (within_true n tails heads m inside) (record { acyclic = false; level = flat }) (cyclic placed.graph settled h) in
-          e ∙ by_bool (rings_of (2 * m) tails heads nexts) (λ t. rw t q) (λ t. rw t refl)
 
       -- all did
       covered : n ≤ tail → (d : ℕ) → d < 2 * m → Covered (2 * m) at nexts held d
@@ -65,8 +59,15 @@ module _ (n m : ℕ) (tails heads : List ℕ) (few : n ≤ 128) (T : Ends n m ta
           let (i, b, q) = Q.all (get_or at d 0) v (eqb-true _ _ r) in
           O.covers i d (omega arith) b l (sym q)
 
-      pub met : n ≤ tail → record { acyclic = true; level = level } ≡ ring_levels n m tails heads nexts
-      unfolding ring_levels rings_of
-      met h =
-          let z = rw ea at (rings_met (omega (arith, T.few)) (covered h)) in
-          rw z (right n m tails heads (within_true n tails heads m inside) (record { acyclic = true; level = level }) (acyclic placed.graph settled h))
+      all_rings : n ≤ tail → rings_of (2 * m) tails heads nexts ≡ true
+      unfolding rings_of
+      all_rings h = rw ea at (rings_met (omega (arith, T.few)) (covered h))
+
+      -- all came into the queue and are right, or some did not
+      pub answer : then_some (leb n tail) level ≡ found (ring_levels n m tails heads nexts)
+      unfolding ring_levels
+      answer = by_bool (rings_of (2 * m) tails heads nexts) (λ t. rw t (outcome placed.graph settled)) (λ f. rw f (none (leb n tail) refl (λ h. clash (all_rings h) f)))
+        where
+          none : (b : Bool) → leb n tail ≡ b → ¬ n ≤ tail → then_some b level ≡ None
+          none true e k = absurd (k (leb-true _ _ e))
+          none false e k = refl

@@ -102,16 +102,16 @@ module _ {n : ℕ} {at nexts : List ℕ} {start v d steps : ℕ} (G : Going n at
     pub going_elsewhere : get_or at e 0 ≢ v → OneRingEach n at nexts → ⊥
     going_elsewhere ne O = ne (ap (entries at) next ∙ O.stays d going_in ∙ ap (entries at) G.place ∙ G.there steps (omega arith))
 
-    pub going_back : e ≡ start → Round n at nexts start v (steps + 1)
-    going_back q = rw (add-one steps) (record {
+    pub going_back : {k : ℕ} → k ≡ suc steps → e ≡ start → Round n at nexts start v k
+    going_back ek q = rw ek (record {
       back = sym moved ∙ q;
       first = λ j a l. G.out j a (omega arith);
       inside = λ j l. G.inside j (omega arith);
       there = λ j l. G.there j (omega arith);
     })
 
-    pub going_on : e < n → get_or at e 0 ≡ v → e ≢ start → Going n at nexts start v e (steps + 1)
-    going_on b t q = rw (add-one steps) (record {
+    pub going_on : {k : ℕ} → k ≡ suc steps → e < n → get_or at e 0 ≡ v → e ≢ start → Going n at nexts start v e k
+    going_on ek b t q = rw ek (record {
       place = moved;
       out = λ j a m. by_cases (ℕ_discrete j (suc steps)) (λ z. rw z (λ w. q (moved ∙ w))) (λ z. G.out j a (omega arith));
       inside = λ j m. by_cases (ℕ_discrete j (suc steps)) (λ z. rw (z, ← moved) b) (λ z. G.inside j (omega arith));
@@ -168,7 +168,7 @@ module _ {n : ℕ} {at nexts : List ℕ} {start v d steps : ℕ} (G : Going n at
   -- one ring is not closed before it has all darts of the vertex
   pub going_early : e ≡ start → suc steps < count (λ d. eqb (get_or at d 0) v) n → ⊥
   going_early q l =
-      omega (arith, round_full (omega arith) (going_back G e next q) (λ x b y. O.joined start x (G.inside 0 (omega arith)) b (G.there 0 (omega arith) ∙ sym y)))
+      omega (arith, round_full (omega arith) (going_back G e next (add-one steps) q) (λ x b y. O.joined start x (G.inside 0 (omega arith)) b (G.there 0 (omega arith) ∙ sym y)))
 
   -- and then it is
   pub going_long : e ≢ start → count (λ d. eqb (get_or at d 0) v) n ≤ suc steps → ⊥
@@ -179,7 +179,7 @@ module _ {n : ℕ} {at nexts : List ℕ} {start v d steps : ℕ} (G : Going n at
   )
     where
       more : Going n at nexts start v e (suc steps)
-      more = rw (add-one steps) at (going_on G e next (rw next (O.permuted.below d (going_in G))) (ap (entries at) next ∙ O.stays d (going_in G) ∙ ap (entries at) G.place ∙ G.there steps (omega arith)) q)
+      more = going_on G e next refl (rw next (O.permuted.below d (going_in G))) (ap (entries at) next ∙ O.stays d (going_in G) ∙ ap (entries at) G.place ∙ G.there steps (omega arith)) q
 
 -- ---- the rings of all vertices
 

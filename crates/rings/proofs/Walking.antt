@@ -5,7 +5,6 @@ use mathlib.Core.Logic.{◌≢◌, ◌⊎◌, inl, inr, by_cases}
 use mathlib.Core.Bool.{Bool, true, false, not, beq, true≢false, false≢true}
 use mathlib.Core.List.{List}
 use native.Mathlib.Decide.{ℕ_discrete}
-use native.Mathlib.Numerals.{add-one}
 use native.Mathlib.Omega.{arith}
 use borrow.Author.Tests.{eq-eqb, ne_eqb, eqb-true, eqb-false, lt-ltb, le-ltb}
 use lib.Dec.{eqb, ltb}
@@ -15,7 +14,6 @@ use Rattle.counting.specs.Counts.{bit, count}
 use Rattle.counting.specs.Orbits.{iter}
 use Rattle.counting.proofs.Counts.{count_le, count_without}
 use Rattle.orbits.specs.Meaning.{entries}
-use Rattle.digraph.specs.Relaxed.{higher_of}
 use Rattle.digraph.specs.Inner.{Graph, Settled}
 use Rattle.digraph.proofs.Waits.{tail_in}
 use Rattle.digraph.proofs.Passing.{Turn, begin, next, skip, finish}
@@ -110,8 +108,8 @@ module _ {darts : ℕ} {at nexts : List ℕ} {start v size : ℕ} (some : 0 < si
         waiting_is : waiting' ≡ set waiting w (get_or waiting w 0 - 1)
         waiting_is = rw out at S.waiting_is
 
-        level_is : level' ≡ set level w (higher_of (get_or level w 0) row)
-        level_is = let e : row + out_of d ≡ suc row = omega (arith, out) in rw e at S.level_is
+        level_is : level' ≡ set level w (max (get_or level w 0) (row + 1))
+        level_is = rw out at S.level_is
 
         tail_is : tail' ≡ tail + bit (eqb (get_or waiting w 0 - 1) 0)
         tail_is = rw out at S.tail_is ∙ ap (λ b. tail + bit b) (zero_test (get_or waiting w 0 - 1))
@@ -159,8 +157,8 @@ module _ {darts : ℕ} {at nexts : List ℕ} {start v size : ℕ} (some : 0 < si
         back : (j : ℕ) → Ahead nexts start size (suc steps) j → Ahead nexts start size steps j
         back j (i, l, b, q) = (i, omega arith, b, q)
 
-    pub walk_more : Here P nexts start size (steps + 1) head v row queue₀ end waiting' level' queue' tail'
-    walk_more = rw (add-one steps) (record {
+    pub walk_more : {k : ℕ} → k ≡ suc steps → Here P nexts start size k head v row queue₀ end waiting' level' queue' tail'
+    walk_more ek = rw ek (record {
       turn = by_cases (ℕ_discrete (d % 2) 0) at_tail at_head;
       kept = λ i l. rw queue_is (get_or-set_other queue tail i w 0 (omega (arith, H.longer)) ∙ H.kept i l);
       longer = omega (arith, H.longer, S.tail_is);

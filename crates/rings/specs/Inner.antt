@@ -5,8 +5,7 @@ use Rattle.counting.specs.Counts.{bit, count}
 use Rattle.counting.specs.Orbits.{Perm, iter, Reach}
 use Rattle.orbits.specs.Tables.{traced, is_permutation}
 use Rattle.orbits.specs.Meaning.{entries}
-use Rattle.digraph.specs.declared.Layering.{Layering}
-use Rattle.digraph.specs.Digraph.{flat}
+use Rattle.digraph.specs.Digraph.{Layering, flat}
 use Rattle.digraph.specs.Relaxed.{levels_of}
 use Rattle.digraph.specs.Inner.{Graph, Settled}
 use Rattle.clauses.specs.Inner.{dart_table, vertex_of}

@@ -2,12 +2,10 @@
 // vertex. The vertices are taken in topological order, and the ring of each is walked once.
 #![tactic(auto)]
 
-ghost use Rattle.std.specs.Prelude.{◌≡◌, true, false, ◌+◌, ◌-◌, ◌*◌, ◌≤◌, ◌<◌, max};
+ghost use Rattle.std.specs.Prelude.{◌≡◌, MatchOption, ◌+◌, ◌*◌, ◌≤◌, ◌<◌};
+ghost use Rattle.digraph.specs.Relaxed.{found};
 ghost use Rattle.clauses.specs.Inner.{Ends};
 ghost use Rattle.rings.specs.Inner.{head_of, Readable, Held, Degrees, OneRingEach, Stepped, Underway, PassedOn, ring_levels};
-
-use counting::{bit, wide};
-use digraph::Layering;
 
 // Stands for the dart of a vertex that has none.
 const NONE: u16 = 512;
@@ -19,28 +17,12 @@ fn some_darts(darts: usize, at: &[u16; 512], degree: &mut [u16; 128]) -> [u16; 1
     ensures { Held darts at.now result × Degrees darts at.now degree.new }
 {
     let mut held = [NONE; 128];
-    let mut d = 0;
-    while d < darts {
-        let v = wide(at[d]);
+    for (d, &v) in at[..darts].iter().enumerate() {
+        let v = usize::from(v);
         held[v] = d as u16;
         degree[v] += 1;
-        d += 1;
     }
     held
-}
-
-// The greater of two numbers.
-fn greater(a: u16, b: u16) -> u16
-    ensures { result ≡ max a b }
-{
-    if a < b { b } else { a }
-}
-
-// What a number leaves of another, 0 where it is more.
-fn less(x: u16, by: u16) -> u16
-    ensures { result ≡ x - by }
-{
-    if by <= x { x - by } else { 0 }
 }
 
 // Passes the edge of dart d, if the dart is at its tail, in a walk round a vertex of level `row`; returns the queue's new end. No branch hangs on the dart.
@@ -56,24 +38,17 @@ fn pass_dart(
     requires { (d < 512) × (head_of at.now d < 256) × (row ≤ 256) × (tail ≤ 1024) }
     ensures { Stepped d row at.now waiting.old level.old queue.old tail waiting.new level.new queue.new result }
 {
-    let w = wide(at[d / 2 * 2 + 1]);
+    let w = usize::from(at[d / 2 * 2 + 1]);
     let out = ((d + 1) % 2) as u16;
-    level[w] = greater(level[w], row + out);
-    let left = less(waiting[w], out);
+    level[w] = level[w].max(row + out);
+    let left = waiting[w].saturating_sub(out);
     waiting[w] = left;
     queue[tail % 256] = w as u16;
-    tail + bit(left < out)
-}
-
-// What a walk finds: whether the darts that it should pass form rings, and the queue's new end.
-#[derive(Clone, Copy)]
-struct Passed {
-    rings: bool,
-    end: usize,
+    tail + usize::from(left < out)
 }
 
 // Walks round the vertex at `head` of the queue and passes the edges out of it. Its ring has all its darts and no others: it is closed after as many steps as the
-// vertex has darts, and not before.
+// vertex has darts, and not before. Returns the queue's new end; none where the darts do not form rings.
 #[tactic(auto, using(crate::proofs::Walking::places))]
 fn pass(
     head: usize,
@@ -86,42 +61,33 @@ fn pass(
     level: &mut [u16; 256],
     queue: &mut [u16; 256],
     end: usize,
-) -> Passed
+) -> Option<usize>
     requires { (head < end) × Underway darts at.now held.now degree.now head waiting.old level.old queue.old end }
-    ensures { (result.rings ≡ true → PassedOn darts at.now nexts.now held.now head waiting.old level.old queue.old end (head + 1) waiting.new level.new queue.new result.end) × (result.rings ≡ false → OneRingEach darts at.now nexts.now → ⊥) }
+    ensures { MatchOption result (¬ OneRingEach darts at.now nexts.now) (λ tail. PassedOn darts at.now nexts.now held.now head waiting.old level.old queue.old end (head + 1) waiting.new level.new queue.new tail) }
 {
-    let none = Passed { rings: false, end };
-    let v = wide(queue[head]);
-    let start = wide(held[v]);
+    let v = usize::from(queue[head]);
+    let start = usize::from(held[v]);
     if darts <= start {
-        return Passed { rings: true, end };
+        return Some(end);
     }
-    let size = wide(degree[v]);
+    let size = usize::from(degree[v]);
     let row = level[v];
     let mut tail = end;
     let mut d = start;
-    let mut steps = 0;
-    while steps < size {
+    for step in 1..=size {
         tail = pass_dart(d, row, at, waiting, level, queue, tail);
-        d = wide(nexts[d]);
-        steps += 1;
-        if darts <= d {
-            return none;
+        d = usize::from(nexts[d]);
+        if darts <= d || usize::from(at[d]) != v {
+            return None;
         }
-        if wide(at[d]) != v {
-            return none;
-        }
-        if (d == start) != (steps == size) {
-            return none;
+        if (d == start) != (step == size) {
+            return None;
         }
     }
-    Passed {
-        rings: true,
-        end: tail,
-    }
+    Some(tail)
 }
 
-// Walks round each vertex in the queue, of which there are `end` at first.
+// Walks round each vertex in the queue, of which there are `end` at first; returns how many there are at last, or none where the darts do not form rings.
 fn settle(
     darts: usize,
     at: &[u16; 512],
@@ -132,44 +98,32 @@ fn settle(
     level: &mut [u16; 256],
     queue: &mut [u16; 256],
     end: usize,
-) -> Passed
+) -> Option<usize>
     requires { Underway darts at.now held.now degree.now 0 waiting.old level.old queue.old end }
-    ensures { (result.rings ≡ true → PassedOn darts at.now nexts.now held.now 0 waiting.old level.old queue.old end result.end waiting.new level.new queue.new result.end) × (result.rings ≡ false → OneRingEach darts at.now nexts.now → ⊥) }
+    ensures { MatchOption result (¬ OneRingEach darts at.now nexts.now) (λ tail. PassedOn darts at.now nexts.now held.now 0 waiting.old level.old queue.old end tail waiting.new level.new queue.new tail) }
 {
     let mut tail = end;
     let mut head = 0;
     while head < tail {
-        let passed = pass(
+        tail = pass(
             head, darts, at, nexts, held, degree, waiting, level, queue, tail,
-        );
-        if !passed.rings {
-            return passed;
-        }
-        tail = passed.end;
+        )?;
         head += 1;
     }
-    Passed {
-        rings: true,
-        end: tail,
-    }
+    Some(tail)
 }
 
-// The level of each of n vertices, where the next darts of each form one ring of exactly its darts and the m edges make no circle; else `acyclic` is false and all
-// levels are 0.
+// The level of each of n vertices, where the next darts of each form one ring of exactly its darts and the m edges make no circle; else none.
 pub fn levels(
     n: usize,
     m: usize,
     tails: &[u16; 256],
     heads: &[u16; 256],
     nexts: &[u16; 512],
-) -> Layering
+) -> Option<[u16; 256]>
     requires { (n ≤ 128) × Ends n m tails.now × Ends n m heads.now }
-    ensures { result ≡ ring_levels n m tails.now heads.now nexts.now }
+    ensures { result ≡ found (ring_levels n m tails.now heads.now nexts.now) }
 {
-    let none = Layering {
-        acyclic: false,
-        level: [0u16; 256],
-    };
     let at = clauses::places(m, tails, heads);
     let mut degree = [0u16; 128];
     let held = some_darts(2 * m, &at, &mut degree);
@@ -177,7 +131,7 @@ pub fn levels(
     let mut queue = [0u16; 256];
     let end = digraph::sources(n, &waiting, &mut queue);
     let mut level = [0u16; 256];
-    let passed = settle(
+    let queued = settle(
         2 * m,
         &at,
         nexts,
@@ -187,15 +141,6 @@ pub fn levels(
         &mut level,
         &mut queue,
         end,
-    );
-    if !passed.rings {
-        return none;
-    }
-    if passed.end < n {
-        return none;
-    }
-    Layering {
-        acyclic: true,
-        level,
-    }
+    )?;
+    (n <= queued).then_some(level)
 }

@@ -14,9 +14,10 @@ use Rattle.counting.proofs.Iterate.{by_bool}
 use Rattle.orbits.specs.declared.Traced.{Traced}
 use Rattle.orbits.specs.Tables.{traced}
 use Rattle.orbits.proofs.Numbering.{count_law}
-use Rattle.digraph.specs.declared.Layering.{Layering}
-use Rattle.digraph.specs.Digraph.{Within, flat}
-use Rattle.digraph.specs.Relaxed.{within_of, climbs, rounds, answer, levels_of}
+use Rattle.digraph.specs.Digraph.{Within}
+use Rattle.digraph.specs.Relaxed.{within_of, climbs, rounds, answer, found, levels_of}
+use Rattle.std.specs.Prelude.{Some, None}
+use Rattle.digraph.proofs.Relaxation.{found_none, found_some}
 use Rattle.digraph.proofs.Tests.{within_is}
 use Rattle.sheet.specs.declared.Sheet.{Sheet}
 use Rattle.answers.specs.declared.Refusal.{Refusal}
@@ -26,7 +27,7 @@ use Rattle.answers.specs.Answers.{Answer}
 use Rattle.answers.specs.Refusals.{first, is_accepted, ◌if◌, answering}
 use Rattle.sheet.specs.Darts.{tail, head, darts}
 use Rattle.sheet.specs.Check.{within_limits, joined, in_rings, unused_zero, rooted, row_levels, acyclic, incoming, outgoing, poles, face_table, planar, sound, judge}
-use Rattle.sheet.specs.Inner.{found, bounded, faced_of, judged_of, findings_of}
+use Rattle.sheet.specs.Inner.{findings_in, bounded, faced_of, judged_of, findings_of}
 use Rattle.clauses.proofs.Touching.{joins_means}
 use Rattle.clauses.specs.Inner.{limits_of, joins_at, zero_at, unused_of, Ends, dart_table, walk_of, end_of, pole_at, poles_of, rooted_of}
 use Rattle.rings.specs.Inner.{rings_of, ring_levels}
@@ -64,11 +65,11 @@ pub few_orbits : (n : ℕ) (step : List ℕ) (f : Traced) → f ≡ traced n ste
 few_orbits n step f e = rw e (count_law n step)
 
 -- by the number of faces
-faced_is : (otherwise : Refusal) (s : Sheet) → faced_of otherwise s.vertices s.edges s.nexts (row_levels s).level ≡ cond (planar s) (Ok (found s)) (Err otherwise)
-unfolding faced_of planar found face_table dart_table walk_of
+faced_is : (otherwise : Refusal) (s : Sheet) → faced_of otherwise s.vertices s.edges s.nexts (row_levels s).level ≡ cond (planar s) (Ok (findings_in s)) (Err otherwise)
+unfolding faced_of planar findings_in face_table dart_table walk_of
 faced_is otherwise s = refl
 
-judged_by : (s : Sheet) → rooted s ≡ true → acyclic s ≡ true → poles s ≡ true → cond (planar s) (Ok (found s)) (Err NotPlanar) ≡ judged_of s
+judged_by : (s : Sheet) → rooted s ≡ true → acyclic s ≡ true → poles s ≡ true → cond (planar s) (Ok (findings_in s)) (Err NotPlanar) ≡ judged_of s
 unfolding judged_of judge first answering
 judged_by s r a p = rw (r, a, p) (by_bool (planar s) (λ t. rw t refl) (λ t. rw t refl))
 
@@ -104,35 +105,35 @@ module _ (n m : ℕ) (tails heads : List ℕ) where
       go true b q = refl
       go false b q = q
 
-  pub acyclic_ends : (l : Layering) → l ≡ levels_of n m tails heads → l.acyclic ≡ true → (n ≤ 256) × Ends 256 m tails × Ends 256 m heads
-  acyclic_ends l e t =
-      let w = acyclic_within (ap (λ (x : Layering). x.acyclic) (sym e) ∙ t) in
-      (w.few_nodes, record { few = w.few_edges; inside = λ k h. omega (arith, w.from_in k h) }, record { few = w.few_edges; inside = λ k h. omega (arith, w.to_in k h) })
+  module _ (rows : List ℕ) (e : Some rows ≡ found (levels_of n m tails heads)) where
+    acyclic_law : (levels_of n m tails heads).acyclic ≡ true
+    acyclic_law = (found_some (levels_of n m tails heads) rows e).0
+
+    pub acyclic_ends : (n ≤ 256) × Ends 256 m tails × Ends 256 m heads
+    acyclic_ends =
+        let w = acyclic_within acyclic_law in
+        (w.few_nodes, record { few = w.few_edges; inside = λ k h. omega (arith, w.from_in k h) }, record { few = w.few_edges; inside = λ k h. omega (arith, w.to_in k h) })
 
   module _ (nexts : List ℕ) where
     pub bad_root : rooted_of tails heads ≡ false → Err BadRoot ≡ judged_of (sheet_of n m tails heads nexts)
     unfolding judged_of judge first answering rooted rooted_of
     bad_root r = rw r refl
 
-    module _ (r : rooted_of tails heads ≡ true) (l : Layering) (le : l ≡ levels_of n m tails heads) where
-      acyclic_is : acyclic (sheet_of n m tails heads nexts) ≡ l.acyclic
-      unfolding acyclic row_levels
-      acyclic_is = ap (λ (x : Layering). x.acyclic) (sym le)
+    module _ (r : rooted_of tails heads ≡ true) where
+      pub cyclic : None ≡ found (levels_of n m tails heads) → Err Cyclic ≡ judged_of (sheet_of n m tails heads nexts)
+      unfolding judged_of judge first answering rooted rooted_of acyclic row_levels
+      cyclic e = rw (r, found_none (levels_of n m tails heads) e) refl
 
-      pub cyclic : l.acyclic ≡ false → Err Cyclic ≡ judged_of (sheet_of n m tails heads nexts)
-      unfolding judged_of judge first answering rooted rooted_of
-      cyclic a = rw (r, acyclic_is, a) refl
-
-      module _ (a : l.acyclic ≡ true) where
+      module _ (rows : List ℕ) (e : Some rows ≡ found (levels_of n m tails heads)) where
         pub bad_poles : poles_of n m tails heads ≡ false → Err BadPoles ≡ judged_of (sheet_of n m tails heads nexts)
-        unfolding judged_of judge first answering rooted rooted_of
-        bad_poles p = rw (r, acyclic_is, a, poles_is (sheet_of n m tails heads nexts), p) refl
+        unfolding judged_of judge first answering rooted rooted_of acyclic row_levels
+        bad_poles p = rw (r, acyclic_law rows e, poles_is (sheet_of n m tails heads nexts), p) refl
 
-        pub by_faces : poles_of n m tails heads ≡ true → (f : Result Findings Refusal) → f ≡ faced_of NotPlanar n m nexts l.level → f ≡ judged_of (sheet_of n m tails heads nexts)
-        unfolding row_levels rooted rooted_of
-        by_faces p f e =
+        pub by_faces : poles_of n m tails heads ≡ true → (f : Result Findings Refusal) → f ≡ faced_of NotPlanar n m nexts rows → f ≡ judged_of (sheet_of n m tails heads nexts)
+        unfolding rooted rooted_of acyclic row_levels
+        by_faces p f q =
             let s = sheet_of n m tails heads nexts in
-            e ∙ ap (λ (x : Layering). faced_of NotPlanar n m nexts x.level) le ∙ faced_is NotPlanar s ∙ judged_by s r (acyclic_is ∙ a) (poles_is s ∙ p)
+            q ∙ ap (faced_of NotPlanar n m nexts) (found_some (levels_of n m tails heads) rows e).1 ∙ faced_is NotPlanar s ∙ judged_by s r (acyclic_law rows e) (poles_is s ∙ p)
 
 -- what a record within its bounds tells the next tests
 pub bounded_ends : (s : Sheet) → bounded s ≡ true
@@ -149,7 +150,7 @@ module _ (s : Sheet) where
   unfolding judged_of answering
   judged_refused r = go (judge s)
     where
-      go : (a : Answer) → answering a (λ _. found s) ≡ Err r → a ≡ Err r
+      go : (a : Answer) → answering a (λ _. findings_in s) ≡ Err r → a ≡ Err r
       go (Ok u) e = cc e
       go (Err q) e = cc e
 
@@ -157,7 +158,7 @@ module _ (s : Sheet) where
   unfolding judged_of answering
   judged_accepted f = go (judge s)
     where
-      go : (a : Answer) → answering a (λ _. found s) ≡ Ok f → a ≡ Ok tt
+      go : (a : Answer) → answering a (λ _. findings_in s) ≡ Ok f → a ≡ Ok tt
       go (Ok u) e = refl
       go (Err r) e = cc e
 
@@ -192,31 +193,31 @@ module _ (s : Sheet) where
   no_poles f t = let (_, _, _, _, _, _, p, _) = sound_parts t in true≢false (sym p ∙ poles_is s ∙ f)
 
   -- rings and rows, found together
-  module _ (l : Layering) (e : l ≡ ring_levels s.vertices s.edges s.tails s.heads s.nexts) where
-    with_rings : rings_of (darts s) s.tails s.heads s.nexts ≡ true → l ≡ row_levels s
-    unfolding ring_levels row_levels
-    with_rings t = e ∙ rw t refl
+  with_rings : rings_of (darts s) s.tails s.heads s.nexts ≡ true → ring_levels s.vertices s.edges s.tails s.heads s.nexts ≡ row_levels s
+  unfolding ring_levels row_levels
+  with_rings t = rw t refl
 
-    pub no_levels : l.acyclic ≡ false → sound s ≡ true → ⊥
-    unfolding acyclic
-    no_levels f t = let (_, _, r, _, _, a, _, _) = sound_parts t in true≢false (sym a ∙ ap (λ (x : Layering). x.acyclic) (sym (with_rings (sym (rings_are s) ∙ r))) ∙ f)
+  pub no_levels : None ≡ found (ring_levels s.vertices s.edges s.tails s.heads s.nexts) → sound s ≡ true → ⊥
+  unfolding acyclic
+  no_levels e t =
+      let (_, _, r, _, _, a, _, _) = sound_parts t in
+      true≢false (sym a ∙ found_none (row_levels s) (e ∙ ap found (with_rings (sym (rings_are s) ∙ r))))
 
-    -- all clauses but the last are met
-    module _ (a : l.acyclic ≡ true) where
-      rings_in_law : rings_of (darts s) s.tails s.heads s.nexts ≡ true
-      unfolding ring_levels
-      rings_in_law = by_bool (rings_of (darts s) s.tails s.heads s.nexts) (λ t. t)
-          (λ t. let q : l ≡ record { acyclic = false; level = flat } = e ∙ rw t refl in absurd (true≢false (sym a ∙ ap (λ (x : Layering). x.acyclic) q)))
+  -- all clauses but the last are met
+  module _ (rows : List ℕ) (e : Some rows ≡ found (ring_levels s.vertices s.edges s.tails s.heads s.nexts)) where
+    rings_in_law : rings_of (darts s) s.tails s.heads s.nexts ≡ true
+    unfolding ring_levels
+    rings_in_law = by_bool (rings_of (darts s) s.tails s.heads s.nexts) (λ t. t) (λ f. let q = rw f at e in cc)
 
-      pub by_all : bounded s ≡ true → rooted_of s.tails s.heads ≡ true → poles_of s.vertices s.edges s.tails s.heads ≡ true
-          → (f : Result Findings Refusal) → f ≡ faced_of NotSound s.vertices s.edges s.nexts l.level → f ≡ findings_of s
-      unfolding findings_of sound bounded rooted rooted_of acyclic
-      by_all b r p f q =
-          let rows = with_rings rings_in_law in
-          let (x, u) = (and-eq-true_iff (within_limits s && joined s) (unused_zero s)).0 b in
-          let (y, j) = (and-eq-true_iff (within_limits s) (joined s)).0 x in
-          q ∙ ap (λ (z : Layering). faced_of NotSound s.vertices s.edges s.nexts z.level) rows ∙ faced_is NotSound s
-          ∙ rw (y, j, rings_are s ∙ rings_in_law, u, r, ap (λ (z : Layering). z.acyclic) (sym rows) ∙ a, poles_is s ∙ p) refl
+    pub by_all : bounded s ≡ true → rooted_of s.tails s.heads ≡ true → poles_of s.vertices s.edges s.tails s.heads ≡ true
+        → (f : Result Findings Refusal) → f ≡ faced_of NotSound s.vertices s.edges s.nexts rows → f ≡ findings_of s
+    unfolding findings_of sound bounded rooted rooted_of acyclic
+    by_all b r p f q =
+        let (a, level) = found_some (row_levels s) rows (e ∙ ap found (with_rings rings_in_law)) in
+        let (x, u) = (and-eq-true_iff (within_limits s && joined s) (unused_zero s)).0 b in
+        let (y, j) = (and-eq-true_iff (within_limits s) (joined s)).0 x in
+        q ∙ ap (faced_of NotSound s.vertices s.edges s.nexts) level ∙ faced_is NotSound s
+        ∙ rw (y, j, rings_are s ∙ rings_in_law, u, r, a, poles_is s ∙ p) refl
 
   pub findings_answer : is_ok (findings_of s) ≡ sound s
   unfolding findings_of

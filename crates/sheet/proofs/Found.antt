@@ -6,7 +6,7 @@ use Rattle.counting.proofs.Iterate.{by_bool}
 use Rattle.sheet.specs.declared.Sheet.{Sheet}
 use Rattle.sheet.specs.declared.Findings.{Findings}
 use Rattle.sheet.specs.Check.{sound}
-use Rattle.sheet.specs.Inner.{found, findings_of}
+use Rattle.sheet.specs.Inner.{findings_in, findings_of}
 
 module _ (s : Sheet) (r : Result Findings Refusal) (e : r ≡ findings_of s) where
   -- its refusal is 9, of a record that is not sound
@@ -15,6 +15,6 @@ module _ (s : Sheet) (r : Result Findings Refusal) (e : r ≡ findings_of s) whe
   not_found q h = by_bool (sound s) (λ t. cc (e, h, t)) (λ t. (t, cc (e, h, t)))
 
   -- else the record is sound, and these are its rows and faces
-  pub found_is : (f : Findings) → r ≡ Ok f → (sound s ≡ true) × (f ≡ found s)
+  pub found_is : (f : Findings) → r ≡ Ok f → (sound s ≡ true) × (f ≡ findings_in s)
   unfolding findings_of
   found_is f h = by_bool (sound s) (λ t. (t, cc (e, h, t))) (λ t. cc (e, h, t))

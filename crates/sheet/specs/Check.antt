@@ -4,7 +4,7 @@ use Rattle.std.specs.Bool.{beq}
 use Rattle.counting.specs.Below.{all_below, some_below, tabulate}
 use Rattle.orbits.specs.declared.Traced.{Traced}
 use Rattle.orbits.specs.Tables.{traced, is_permutation}
-use Rattle.digraph.specs.declared.Layering.{Layering}
+use Rattle.digraph.specs.Digraph.{Layering}
 use Rattle.digraph.specs.Relaxed.{levels_of}
 use Rattle.sheet.specs.declared.Sheet.{Sheet}
 use Rattle.answers.specs.Answers.{Answer}

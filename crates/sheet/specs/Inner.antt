@@ -9,8 +9,8 @@ use Rattle.sheet.specs.declared.Findings.{Findings}
 use Rattle.answers.specs.Refusals.{answering}
 use Rattle.sheet.specs.Check.{within_limits, joined, in_rings, unused_zero, row_levels, face_table, sound, judge}
 
-unfoldable pub found : Sheet → Findings
-found s = record { rows = (row_levels s).level; faces = (face_table s).orbit; count = (face_table s).count }
+unfoldable pub findings_in : Sheet → Findings
+findings_in s = record { rows = (row_levels s).level; faces = (face_table s).orbit; count = (face_table s).count }
 
 -- the first four clauses of soundness, which load finds met line by line
 unfoldable pub structured : Sheet → Bool
@@ -28,8 +28,8 @@ faced_of otherwise n m nexts rows =
 
 -- by the other four
 unfoldable pub judged_of : Sheet → Result Findings Refusal
-judged_of s = answering (judge s) (λ _. found s)
+judged_of s = answering (judge s) (λ _. findings_in s)
 
 -- by all
 unfoldable pub findings_of : Sheet → Result Findings Refusal
-findings_of s = cond (sound s) (Ok (found s)) (Err NotSound)
+findings_of s = cond (sound s) (Ok (findings_in s)) (Err NotSound)

@@ -86,14 +86,12 @@ fn judged(s: &Sheet) -> Result<Findings, Refusal>
     if !is_rooted(&s.tails, &s.heads) {
         return Err(Refusal::BadRoot);
     }
-    let levels = digraph::levels(s.vertices, s.edges, &s.tails, &s.heads);
-    if !levels.acyclic {
+    let Some(rows) = digraph::levels(s.vertices, s.edges, &s.tails, &s.heads) else {
         return Err(Refusal::Cyclic);
-    }
+    };
     if !has_poles(s.vertices, s.edges, &s.tails, &s.heads) {
         return Err(Refusal::BadPoles);
     }
-    let rows = levels.level;
     faced(Refusal::NotPlanar, s.vertices, s.edges, &s.nexts, rows)
 }
 
@@ -111,11 +109,9 @@ pub fn examine(s: Sheet) -> Result<Findings, Refusal>
     if !has_poles(s.vertices, s.edges, &s.tails, &s.heads) {
         return Err(Refusal::NotSound);
     }
-    let levels = rings::levels(s.vertices, s.edges, &s.tails, &s.heads, &s.nexts);
-    if !levels.acyclic {
+    let Some(rows) = rings::levels(s.vertices, s.edges, &s.tails, &s.heads, &s.nexts) else {
         return Err(Refusal::NotSound);
-    }
-    let rows = levels.level;
+    };
     faced(Refusal::NotSound, s.vertices, s.edges, &s.nexts, rows)
 }
 

@@ -9,7 +9,7 @@ use Rattle.counting.specs.Paths.{Path, Circle, Longest}
 use Rattle.counting.specs.Paths.Path.{here, more}
 use Rattle.counting.proofs.Iterate.{by_bool}
 use Rattle.counting.proofs.Paths.{append}
-use Rattle.digraph.specs.declared.Layering.{Layering}
+use Rattle.digraph.specs.Digraph.{Layering}
 use Rattle.digraph.specs.Digraph.{Leads, Within, Leveled}
 use Rattle.digraph.specs.Relaxed.{levels_of}
 use Rattle.digraph.proofs.Relaxation.{levels_mean}

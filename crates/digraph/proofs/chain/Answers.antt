@@ -1,14 +1,16 @@
 -- `chain` meets its contract, which is its loop's invariant at edge 0. Assumes nothing.
-use Rattle.std.proofs.Common.{◌≡◌, suc, ◌-◌, ◌<◌, arith}
+use Rattle.std.proofs.Common.{◌≡◌, suc, ◌-◌, arith}
 use Rattle.digraph.proofs.Chaining.{unchained, chained_more}
 use Rattle.digraph.proofs.chain.Goals as goal
 
 pub loop-k-init : goal.loop-k-init
-loop-k-init c = (omega arith, unchained _ _ c.requires.0)
+loop-k-init c = unchained _ _ c.requires.0
 
 pub loop-k-preserved : goal.loop-k-preserved
 loop-k-preserved c =
     let s = c.requires in
     let z : c.loop-k.k ≡ suc (c.loop-k.k - 1) = omega arith in
-    let end_in : c.wide-v.result < 256 = omega (arith, c.wide-v.ensures.0, s.1 (c.loop-k.k - 1) (omega arith)) in
-    (omega arith, chained_more (rw z at c.loop-k.invariant.1) (omega arith) s.0 _ c.wide-v.ensures.0 end_in s.1)
+    chained_more (rw z at c.loop-k.invariant) (omega arith) s.0 _ c.from-v.ensures (omega (arith, c.from-v.ensures, s.1 (c.loop-k.k - 1) (omega arith))) s.1
+
+pub returns : goal.returns
+returns c = let z : c.loop-k.k ≡ 0 = omega arith in rw z at c.loop-k.invariant

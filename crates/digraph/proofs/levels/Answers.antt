@@ -3,13 +3,13 @@ use Rattle.std.proofs.Common.{ℕ, List, refl, sym, ◌∙◌, arith}
 use Rattle.digraph.specs.Digraph.{Within, flat}
 use Rattle.digraph.specs.Inner.{Chained, Listing}
 use Rattle.digraph.proofs.Tests.{within_is}
-use Rattle.digraph.proofs.Relaxation.{outside, right}
-use Rattle.digraph.proofs.Settling.{start, acyclic, cyclic}
+use Rattle.digraph.proofs.Relaxation.{outside}
+use Rattle.digraph.proofs.Settling.{start, outcome}
 use Rattle.digraph.proofs.levels.Goals as goal
 
 pub returns-then-not-within : goal.returns-then-not-within
 unfolding flat
-returns-then-not-within c = outside _ _ _ _ (sym c.within.ensures ∙ c.if-not-within.true) _ refl
+returns-then-not-within c = rw (outside _ _ _ _ (sym c.within.ensures ∙ c.if-not-within.true)) refl
 
 pub chain-c-requires : goal.chain-c-requires
 chain-c-requires c =
@@ -37,16 +37,8 @@ settle-queued-requires c =
     let L = listing W c.chain-c.ensures in
     record { listing = L; settled = start L.graph c.waiting_edges-waiting.ensures c.sources-end.ensures }
 
-pub returns-then-queued-nodes : goal.returns-then-queued-nodes
-unfolding flat
-returns-then-queued-nodes c =
-    let t = sym c.within.ensures ∙ c.if-not-within.false in
-    let L = listing (within_is _ _ _ _ t) c.chain-c.ensures in
-    right _ _ _ _ t _ (cyclic L.graph (c.settle-queued.ensures L (start L.graph c.waiting_edges-waiting.ensures c.sources-end.ensures)) c.if-queued-nodes.true)
-
 pub returns : goal.returns
 unfolding flat
 returns c =
-    let t = sym c.within.ensures ∙ c.if-not-within.false in
-    let L = listing (within_is _ _ _ _ t) c.chain-c.ensures in
-    right _ _ _ _ t _ (acyclic L.graph (c.settle-queued.ensures L (start L.graph c.waiting_edges-waiting.ensures c.sources-end.ensures)) c.if-queued-nodes.false)
+    let L = listing (within_is _ _ _ _ (sym c.within.ensures ∙ c.if-not-within.false)) c.chain-c.ensures in
+    c.then_some.ensures ∙ outcome L.graph (c.settle-queued.ensures L (start L.graph c.waiting_edges-waiting.ensures c.sources-end.ensures))

@@ -1,24 +1,23 @@
--- `within` meets its contract: the edges before k join nodes. Assumes nothing.
-use Rattle.std.proofs.Common.{sym, arith}
-use Rattle.digraph.proofs.Tests.{within_true, within_false}
+-- `within` meets its contract: it passes where the counts are within the arrays and the ends are nodes. Assumes nothing.
+use Rattle.std.proofs.Common.{false, sym, ◌∙◌, arith}
+use Rattle.std.proofs.lemmas.Bool.{false≢true}
+use Rattle.digraph.proofs.Tests.{within_met, ends_below, below_ends}
 use Rattle.digraph.proofs.within.Goals as goal
 
 pub returns-then-nodes-gt256 : goal.returns-then-nodes-gt256
-returns-then-nodes-gt256 c = sym (within_false _ _ _ _ (λ W. omega (arith, W.few_nodes, c.if-nodes-gt256.true)))
+returns-then-nodes-gt256 c = within_met _ _ _ _ false (λ f. absurd (false≢true f)) (λ W. absurd (omega (arith, c.then-nodes-gt256.either, W.few_nodes, W.few_edges)))
 
-pub returns-then-edges-gt256 : goal.returns-then-edges-gt256
-returns-then-edges-gt256 c = sym (within_false _ _ _ _ (λ W. omega (arith, W.few_edges, c.if-edges-gt256.true)))
+pub returns-then-are_nodes : goal.returns-then-are_nodes
+returns-then-are_nodes c = within_met _ _ _ _ _
+    (λ t. record {
+      few_nodes = omega arith;
+      few_edges = omega arith;
+      from_in = ends_below _ c.told-from (omega arith) (c.are_nodes.ensures.0 c.if-are_nodes.true);
+      to_in = ends_below _ c.told-to (omega arith) (c.are_nodes-then-are_nodes.ensures.0 t);
+    })
+    (λ W. c.are_nodes-then-are_nodes.ensures.1 (below_ends _ c.told-to W.few_edges W.to_in))
 
-pub returns-then-nodes-wide : goal.returns-then-nodes-wide
-returns-then-nodes-wide c = sym (within_false _ _ _ _ (λ W. omega (arith, W.from_in c.loop-k.k c.loop-k-test.true, c.wide.ensures.0, c.if-nodes-wide.true)))
-
-pub returns-then-nodes-wide-2 : goal.returns-then-nodes-wide-2
-returns-then-nodes-wide-2 c = sym (within_false _ _ _ _ (λ W. omega (arith, W.to_in c.loop-k.k c.loop-k-test.true, c.wide-in-loop-k.ensures.0, c.if-nodes-wide-2.true)))
-
-pub returns : goal.returns
-returns c = sym (within_true _ _ _ _ (record {
-  few_nodes = omega arith;
-  few_edges = omega arith;
-  from_in = λ k h. (c.loop-k.invariant.1 k (omega (arith, c.loop-k-test.false))).0;
-  to_in = λ k h. (c.loop-k.invariant.1 k (omega (arith, c.loop-k-test.false))).1;
-}))
+pub returns-else-are_nodes : goal.returns-else-are_nodes
+returns-else-are_nodes c = within_met _ _ _ _ _
+    (λ t. absurd (false≢true (sym c.if-are_nodes.false ∙ t)))
+    (λ W. c.are_nodes.ensures.1 (below_ends _ c.told-from W.few_edges W.from_in))

@@ -1,11 +1,9 @@
 -- `levels` meets its contract. Assumes nothing.
-use mathlib.Core.Path.{refl}
-use native.Mathlib.Omega.{arith}
-use borrow.Author.Tests.{not-true, not-false}
+use Rattle.std.proofs.Common.{◌∙◌, arith}
 use Rattle.digraph.specs.Digraph.{flat}
 use Rattle.rings.proofs.Rings.{degrees_none}
 use Rattle.rings.proofs.Walking.{placed_readable}
-use Rattle.rings.proofs.Outcome.{placed, no_rings, underway, circle, met}
+use Rattle.rings.proofs.Outcome.{placed, no_rings, underway, answer}
 use Rattle.rings.proofs.levels.Goals as goal
 
 pub some_darts-held-requires : goal.some_darts-held-requires
@@ -16,28 +14,19 @@ some_darts-held-requires c =
 pub waiting_edges-waiting-requires : goal.waiting_edges-waiting-requires
 waiting_edges-waiting-requires c = let p = c.requires in (p.2.few, λ k l. omega (arith, p.2.inside k l, p.0))
 
-pub settle-passed-requires : goal.settle-passed-requires
+pub settle-requires : goal.settle-requires
 unfolding flat
-settle-passed-requires c =
+settle-requires c =
     let p = c.requires in
     underway _ _ _ _ p.0 p.1 p.2 _ c.places-at.ensures c.waiting_edges-waiting.ensures c.sources-end.ensures c.some_darts-held.ensures.0 c.some_darts-held.ensures.1
 
-pub returns-then-not-passed : goal.returns-then-not-passed
-unfolding flat
-returns-then-not-passed c =
+pub returns-in_err-queued : goal.returns-in_err-queued
+returns-in_err-queued c =
     let p = c.requires in
-    no_rings _ _ _ _ p.0 p.1 p.2 _ c.places-at.ensures _ (c.settle-passed.ensures.1 (not-true _ c.if-not-passed.true)) _ refl
-
-pub returns-then-passed-n : goal.returns-then-passed-n
-unfolding flat
-returns-then-passed-n c =
-    let p = c.requires in
-    let O = c.settle-passed.ensures.0 (not-false _ c.if-not-passed.false) in
-    circle _ _ _ _ p.0 p.1 p.2 _ c.places-at.ensures c.waiting_edges-waiting.ensures c.sources-end.ensures c.some_darts-held.ensures.0 c.some_darts-held.ensures.1 O c.if-passed-n.true _ refl
+    c.from_residual.ensures ∙ no_rings _ _ _ _ p.0 p.1 p.2 _ c.places-at.ensures _ c.in_err-queued.ensures
 
 pub returns : goal.returns
 unfolding flat
 returns c =
     let p = c.requires in
-    let O = c.settle-passed.ensures.0 (not-false _ c.if-not-passed.false) in
-    met _ _ _ _ p.0 p.1 p.2 _ c.places-at.ensures c.waiting_edges-waiting.ensures c.sources-end.ensures c.some_darts-held.ensures.0 c.some_darts-held.ensures.1 O c.if-passed-n.false
+    c.then_some.ensures ∙ answer _ _ _ _ p.0 p.1 p.2 _ c.places-at.ensures c.waiting_edges-waiting.ensures c.sources-end.ensures c.some_darts-held.ensures.0 c.some_darts-held.ensures.1 c.in_ok-queued.ensures

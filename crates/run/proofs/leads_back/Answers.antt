@@ -3,7 +3,7 @@ use Prim.Native.Nat.{◌<◌}
 use mathlib.Core.Path.{sym, ◌∙◌, ap}
 use mathlib.Core.Bool.{not}
 use native.Mathlib.Omega.{arith}
-use Rattle.digraph.specs.declared.Layering.{Layering}
+use Rattle.digraph.specs.Digraph.{Layering}
 use Rattle.run.proofs.Closing.{from_root, not_higher, by_circle}
 use Rattle.run.proofs.leads_back.Goals as goal
 

@@ -1,7 +1,7 @@
 -- `run::run_answer` meets its contract. Test by test, in order. Assumes nothing.
 use Rattle.std.proofs.Common.{◌≡◌, sym, ◌∙◌, ap, rules, Err}
 use Rattle.sheet.specs.declared.Findings.{Findings}
-use Rattle.sheet.specs.Inner.{found}
+use Rattle.sheet.specs.Inner.{findings_in}
 use Rattle.sheet.proofs.Found.{not_found, found_is}
 use Rattle.run.proofs.Answers.{not_sound, no_start, no_end, no_first, no_second}
 use Rattle.run.proofs.run_answer.Goals as goal
@@ -33,7 +33,7 @@ returns-then-s-q c =
     no_second _ _ _ _ _ is c.if-s-a.false c.if-s-b.false c.if-s-p.false c.if-s-q.true
 
 pub join_answer-requires : goal.join_answer-requires
-unfolding found
+unfolding findings_in
 join_answer-requires c =
     let (is, f) = found_is _ _ c.examine.ensures _ c.in_ok-found.was in
     (

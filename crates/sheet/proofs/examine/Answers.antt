@@ -1,6 +1,7 @@
 -- `sheet::examine` meets its contract: a clause that fails makes the record unsound, whatever the order. Assumes nothing.
-use Rattle.std.proofs.Common.{◌≡◌, sym, ◌∙◌, true, arith}
-use borrow.Author.Tests.{not-true, not-false}
+use mathlib.Core.Path.{◌≡◌, sym, ◌∙◌}
+use mathlib.Core.Bool.{true}
+use native.Mathlib.Omega.{arith}
 use Rattle.sheet.specs.Inner.{bounded}
 use Rattle.sheet.proofs.Clauses.{bounded_ends, not_sound, not_bounded, not_rooted, no_poles, no_levels, by_all}
 use Rattle.sheet.proofs.examine.Goals as goal
@@ -21,15 +22,15 @@ has_poles-requires c =
 pub returns-then-not-has_poles : goal.returns-then-not-has_poles
 returns-then-not-has_poles c = not_sound _ (no_poles _ (sym c.has_poles.ensures ∙ c.if-not-has_poles.true))
 
-pub levels-levels-requires : goal.levels-levels-requires
-levels-levels-requires c =
+pub levels-requires : goal.levels-requires
+levels-requires c =
     let is_in : bounded c.args.s ≡ true = sym c.is_bounded.ensures ∙ c.if-not-is_bounded.false in
     let (n, _, ends) = bounded_ends _ is_in in
     let (t, h) = ends c.args.s.vertices (omega arith) in
     (n, t, h)
 
-pub returns-then-not-levels : goal.returns-then-not-levels
-returns-then-not-levels c = not_sound _ (no_levels _ _ c.levels-levels.ensures (not-true _ c.if-not-levels.true))
+pub returns-in_default : goal.returns-in_default
+returns-in_default c = not_sound _ (no_levels _ c.in_default.ensures)
 
 pub faced-requires : goal.faced-requires
 faced-requires c =
@@ -40,4 +41,4 @@ faced-requires c =
 pub returns : goal.returns
 returns c =
     let is_in : bounded c.args.s ≡ true = sym c.is_bounded.ensures ∙ c.if-not-is_bounded.false in
-    by_all _ _ c.levels-levels.ensures (not-false _ c.if-not-levels.false) is_in (sym c.is_rooted.ensures ∙ c.if-not-is_rooted.false) (sym c.has_poles.ensures ∙ c.if-not-has_poles.false) _ c.faced.ensures
+    by_all _ _ c.in-Some.ensures is_in (sym c.is_rooted.ensures ∙ c.if-not-is_rooted.false) (sym c.has_poles.ensures ∙ c.if-not-has_poles.false) _ c.faced.ensures
