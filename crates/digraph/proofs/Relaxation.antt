@@ -1,7 +1,7 @@
 -- What `levels_of` means: the greatest lengths of paths, or a circle. Assumes nothing.
 use mathlib.Core.Path.{◌≡◌, refl, sym, ap, ◌∙◌}
 use mathlib.Core.Logic.{by_cases}
-use mathlib.Core.Bool.{Bool, true, false, true≢false, false≢true}
+use mathlib.Core.Bool.{Bool, true, false, not, ◌&&◌, true≢false, false≢true}
 use mathlib.Core.List.{List}
 use Prim.Native.Nat.{ℕ, zero, suc, ◌≤◌, ◌<◌}
 use native.Mathlib.Decide.{ℕ_discrete, dec_lt}
@@ -15,6 +15,8 @@ use Rattle.digraph.specs.Digraph.{Layering}
 use Rattle.digraph.specs.Digraph.{Leads, Within, Leveled, flat}
 use Rattle.digraph.specs.Relaxed.{higher_of, raised, relaxed, rounds, climbs, answer, within_of, found, levels_of, LevelsMean}
 use Rattle.std.specs.Prelude.{Some, None}
+use Rattle.std.specs.Option.{is_none, unwrap_or}
+use Rattle.std.specs.Bool.{then_some}
 use Rattle.digraph.specs.Inner.{Attained}
 use Rattle.counting.proofs.Stores.{Stored, stored}
 use Rattle.counting.proofs.Stores.Stored.{here as same, apart as other}
@@ -233,3 +235,19 @@ found_some l level e = go l.acyclic refl
     go : (b : Bool) → l.acyclic ≡ b → (b ≡ true) × (level ≡ l.level)
     go true t = let q = rw t at e in (refl, cc)
     go false f = let q = rw f at e in (cc, cc)
+
+pub is_none_found : (l : Layering) → is_none (found l) ≡ not l.acyclic
+is_none_found l = go l.acyclic
+  where
+    go : (b : Bool) → is_none (then_some b l.level) ≡ not b
+    go true = refl
+    go false = refl
+
+-- and no levels where there is a circle
+pub levels_or_flat : (nodes edges : ℕ) (from to : List ℕ) → unwrap_or (found (levels_of nodes edges from to)) flat ≡ (levels_of nodes edges from to).level
+unfolding levels_of answer
+levels_or_flat nodes edges from to = go (within_of nodes edges from to && climbs edges from to (rounds nodes edges from to)) (rounds nodes edges from to)
+  where
+    go : (b : Bool) (level : List ℕ) → unwrap_or (found (answer b level)) flat ≡ (answer b level).level
+    go true level = refl
+    go false level = refl

@@ -4,8 +4,9 @@ use mathlib.Core.Path.{◌≡◌, refl, ap, ◌∙◌}
 use mathlib.Core.List.{List}
 use native.Mathlib.Omega.{arith}
 use lib.ListN.{get_or}
-use Rattle.digraph.specs.Digraph.{Layering}
-use Rattle.digraph.specs.Relaxed.{levels_of}
+use Rattle.std.specs.Prelude.{Option, Some}
+use Rattle.digraph.specs.Relaxed.{found, levels_of}
+use Rattle.soundness.proofs.Columns.{columns_acyclic}
 use Rattle.sheet.specs.declared.Sheet.{Sheet}
 use Rattle.sheet.specs.declared.Findings.{Findings}
 use Rattle.clauses.specs.Inner.{Ends}
@@ -27,13 +28,20 @@ pub record Leveled (s : Sheet) (rows from to level : List ℕ) : Type 0 where
   pub to_are : to ≡ edge_table (face_to s) s
   pub levels_are : level ≡ (column_levels s).level
 
-pub leveled_from : {s : Sheet} {f : Findings} {from to : List ℕ} {levels : Layering} → Found s f
-    → from ≡ leading_faces s.edges 0 f.faces → to ≡ leading_faces s.edges 1 f.faces → levels ≡ levels_of f.count s.edges from to → Leveled s f.rows from to levels.level
-unfolding column_levels
-leveled_from {s} F e t l =
-    let from_are = e ∙ ap (leading_faces s.edges 0) F.faces_are ∙ from_table s in
-    let to_are = t ∙ ap (leading_faces s.edges 1) F.faces_are ∙ to_table s in
-    record { sound = F.has_sound; rows_are = F.rows_are; from_are = from_are; to_are = to_are; levels_are = ap (λ (x : Layering). x.level) l ∙ rw (F.count_is, from_are, to_are) refl }
+module _ {s : Sheet} {f : Findings} {from to : List ℕ} (F : Found s f) (e : from ≡ leading_faces s.edges 0 f.faces) (t : to ≡ leading_faces s.edges 1 f.faces) where
+  from_are : from ≡ edge_table (face_from s) s
+  from_are = e ∙ ap (leading_faces s.edges 0) F.faces_are ∙ from_table s
+
+  to_are : to ≡ edge_table (face_to s) s
+  to_are = t ∙ ap (leading_faces s.edges 1) F.faces_are ∙ to_table s
+
+  -- the faces make no circle
+  pub levels_found : {levels : Option (List ℕ)} → levels ≡ found (levels_of f.count s.edges from to) → levels ≡ Some (column_levels s).level
+  unfolding column_levels
+  levels_found l = l ∙ rw (F.count_is, from_are, to_are, columns_acyclic F.has_sound) refl
+
+  pub leveled_from : {levels : Option (List ℕ)} {level : List ℕ} → levels ≡ found (levels_of f.count s.edges from to) → levels ≡ Some level → Leveled s f.rows from to level
+  leveled_from l e = let q = levels_found l in record { sound = F.has_sound; rows_are = F.rows_are; from_are = from_are; to_are = to_are; levels_are = cc }
 
 module _ {s : Sheet} {rows from to level : List ℕ} (L : Leveled s rows from to level) where
   abbrev S : Sound s

@@ -204,8 +204,8 @@ pub fn draw(s: Sheet) -> Result<Drawing, Refusal>
     let found = sheet::examine(s)?;
     let from = leading_faces(s.edges, 0, &found.faces);
     let to = leading_faces(s.edges, 1, &found.faces);
-    let levels = digraph::levels(found.count, s.edges, &from, &to);
-    let level = levels.level;
+    // The faces of a sound sheet make no circle.
+    let level = digraph::levels(found.count, s.edges, &from, &to).unwrap();
     let last = level[wide(to[0])];
     let columns = columns_beside(s.edges, &level, &from, last, 0);
     let ends = columns_beside(s.edges, &level, &to, last, 1);

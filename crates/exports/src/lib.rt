@@ -33,9 +33,9 @@ pub extern "C" fn walnut_levels(
     ensures { (result ≡ (levels_of nodes edges from.now to.now).acyclic) × (level.new ≡ (levels_of nodes edges from.now to.now).level) }
 {
     let found = digraph::levels(nodes, edges, from, to);
-    let levels = found.level;
+    let levels = found.unwrap_or([0u16; 256]);
     *level = levels;
-    found.acyclic
+    found.is_some()
 }
 
 // The orbit of each element of a permutation, and how many orbits there are.

@@ -63,8 +63,7 @@ fn leads_back(s: Sheet, rows: &[u16; 256], a: usize, b: usize) -> bool
     tails[0] = a as u16;
     let mut heads = s.heads;
     heads[0] = b as u16;
-    let levels = digraph::levels(s.vertices, s.edges, &tails, &heads);
-    !levels.acyclic
+    digraph::levels(s.vertices, s.edges, &tails, &heads).is_none()
 }
 
 // The sheet with an edge from a to b, whose ends come just after p and after q clockwise.

@@ -23,7 +23,7 @@ use Rattle.soundness.specs.Maps.{map_of}
 use Rattle.soundness.specs.Laws.{Columns}
 use Rattle.counting.proofs.Below.{get_d_tabulated}
 use Rattle.soundness.proofs.Darts.{dart, dart_is, dart_kind, dart_below, dart_opposite, edge_below}
-use Rattle.soundness.proofs.Levels.{path_over, circle_over, longest_over, level_longest}
+use Rattle.soundness.proofs.Levels.{path_over, circle_over, longest_over, acyclic_says, level_longest}
 use Rattle.soundness.proofs.Faces.{faces_numbered}
 use Rattle.soundness.proofs.Law.{rotation_of}
 use Rattle.soundness.proofs.Plane.{plane_of}
@@ -97,6 +97,13 @@ module _ {s : Sheet} (S : Sound s) where
 
   graph : FaceGraph (map_of s)
   graph = face_graph (plane_of S) S.limits.edges_least
+
+  pub columns_acyclic : (column_levels s).acyclic ≡ true
+  unfolding column_levels Listed
+  columns_acyclic =
+      (acyclic_says (FaceLeads s (face s)) (face_count s) s.edges (edge_table (face_from s) s) (edge_table (face_to s) s)
+      columns_within (listed s (omega (arith, S.limits.edges_least))) (unlisted s)).1
+      (λ z. graph.no_circle (circle_over (to_step s) z))
 
   column_longest : (c : ℕ) → c < face_count s → Column s (face s) c (column s c)
   unfolding column_levels Listed opposite

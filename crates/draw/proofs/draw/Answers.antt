@@ -1,8 +1,8 @@
 -- `draw::draw` meets its contract: a sheet that is not sound is refused, and the drawing of a sound one composed. Assumes nothing.
-use Rattle.std.proofs.Common.{◌≡◌, ◌∙◌, ap, rules, Err}
+use Rattle.std.proofs.Common.{◌≡◌, ◌∙◌, ap, refl, rules, Err}
 use native.Mathlib.Omega.{arith}
 use Rattle.sheet.proofs.Found.{not_found}
-use Rattle.draw.proofs.Laying.{leveled_from, first_in, from_rises, to_rises, all_small, all_laid}
+use Rattle.draw.proofs.Laying.{levels_found, leveled_from, first_in, from_rises, to_rises, all_small, all_laid}
 use Rattle.draw.proofs.Outcome.{not_sound, is_sound, found, edges_in}
 use Rattle.draw.proofs.draw.Goals as goal
 
@@ -18,28 +18,33 @@ leading_faces-from-requires c = edges_in (found (search rules) c.examine.ensures
 pub leading_faces-to-requires : goal.leading_faces-to-requires
 leading_faces-to-requires c = edges_in (found (search rules) c.examine.ensures c.in_ok-found.was) (omega arith)
 
+pub unwrap-level-requires : goal.unwrap-level-requires
+unwrap-level-requires c =
+    let F = found (search rules) c.examine.ensures c.in_ok-found.was in
+    rw (levels_found F c.leading_faces-from.ensures c.leading_faces-to.ensures c.levels.ensures) refl
+
 pub bounds-level-wide : goal.bounds-level-wide
 bounds-level-wide c =
     let F = found (search rules) c.examine.ensures c.in_ok-found.was in
-    omega (arith, c.wide.ensures.0, first_in (leveled_from F c.leading_faces-from.ensures c.leading_faces-to.ensures c.levels-levels.ensures))
+    omega (arith, c.wide.ensures.0, first_in (leveled_from F c.leading_faces-from.ensures c.leading_faces-to.ensures c.levels.ensures c.unwrap-level.ensures))
 
 pub columns_beside-columns-requires : goal.columns_beside-columns-requires
 columns_beside-columns-requires c =
     let F = found (search rules) c.examine.ensures c.in_ok-found.was in
-    from_rises (leveled_from F c.leading_faces-from.ensures c.leading_faces-to.ensures c.levels-levels.ensures)
+    from_rises (leveled_from F c.leading_faces-from.ensures c.leading_faces-to.ensures c.levels.ensures c.unwrap-level.ensures)
 
 pub columns_beside-ends-requires : goal.columns_beside-ends-requires
 columns_beside-ends-requires c =
     let F = found (search rules) c.examine.ensures c.in_ok-found.was in
-    to_rises (leveled_from F c.leading_faces-from.ensures c.leading_faces-to.ensures c.levels-levels.ensures) _ (omega arith)
+    to_rises (leveled_from F c.leading_faces-from.ensures c.leading_faces-to.ensures c.levels.ensures c.unwrap-level.ensures) _ (omega arith)
 
 pub compose-requires : goal.compose-requires
 compose-requires c =
     let F = found (search rules) c.examine.ensures c.in_ok-found.was in
-    all_small (leveled_from F c.leading_faces-from.ensures c.leading_faces-to.ensures c.levels-levels.ensures) c.wide.ensures.0 c.columns_beside-columns.ensures
+    all_small (leveled_from F c.leading_faces-from.ensures c.leading_faces-to.ensures c.levels.ensures c.unwrap-level.ensures) c.wide.ensures.0 c.columns_beside-columns.ensures
 
 pub returns : goal.returns
 returns c =
     let F = found (search rules) c.examine.ensures c.in_ok-found.was in
-    let L = leveled_from F c.leading_faces-from.ensures c.leading_faces-to.ensures c.levels-levels.ensures in
+    let L = leveled_from F c.leading_faces-from.ensures c.leading_faces-to.ensures c.levels.ensures c.unwrap-level.ensures in
     is_sound _ F.is_so _ (all_laid L c.wide.ensures.0 c.columns_beside-columns.ensures c.columns_beside-ends.ensures c.compose.ensures)

@@ -1,9 +1,9 @@
 -- `run::leads_back` meets its contract. From vertex 0, or by the rows, or by the circles of the graph with edge 0 replaced. Assumes nothing.
 use Prim.Native.Nat.{◌<◌}
 use mathlib.Core.Path.{sym, ◌∙◌, ap}
-use mathlib.Core.Bool.{not}
+use Rattle.std.specs.Option.{is_none}
 use native.Mathlib.Omega.{arith}
-use Rattle.digraph.specs.Digraph.{Layering}
+use Rattle.digraph.proofs.Relaxation.{is_none_found}
 use Rattle.run.proofs.Closing.{from_root, not_higher, by_circle}
 use Rattle.run.proofs.leads_back.Goals as goal
 
@@ -37,4 +37,4 @@ returns-then-rows-a c =
 
 pub returns : goal.returns
 returns c = let a = c.args in
-    ap (λ (l : Layering). not l.acyclic) c.levels-levels.ensures ∙ by_circle a.s a.a a.b c.requires.0 c.if-b-eq0.false
+    c.is_none.ensures ∙ ap is_none c.levels.ensures ∙ is_none_found _ ∙ by_circle a.s a.a a.b c.requires.0 c.if-b-eq0.false
