@@ -3,19 +3,21 @@ use mathlib.Core.Path.{◌≡◌, refl, sym, ap, ◌∙◌}
 use mathlib.Core.Logic.{◌≢◌, ◌⊎◌, inl, inr, ⊎_elim, by_cases}
 use mathlib.Core.Bool.{Bool, true, false}
 use mathlib.Core.List.{List}
-use Prim.Native.Nat.{ℕ, suc, ◌+◌, ◌-◌, ◌≤◌, ◌<◌, max}
+use Prim.Native.Nat.{ℕ, suc, ◌+◌, ◌-◌, ◌%◌, ◌≤◌, ◌<◌, max}
 use native.Mathlib.Decide.{ℕ_discrete}
 use native.Mathlib.Omega.{arith}
 use native.Mathlib.Numerals.{add-one}
-use lib.Dec.{eqb}
+use lib.Dec.{eqb, ltb}
+use borrow.Author.Tests.{eq-eqb, ne_eqb, lt-ltb, le-ltb}
 use lib.ListN.{get_or, set, length}
-use lib.Seq.{get_or-set_other}
+use lib.Seq.{get_or-set_other, set-get_or}
 use Rattle.counting.specs.Counts.{bit, count}
 use Rattle.counting.proofs.Counts.{without, without_same, without_other, count_without}
 use Rattle.counting.proofs.Stores.{Stored, stored}
 use Rattle.counting.proofs.Stores.Stored.{here as same, apart as other}
 use Rattle.digraph.specs.Relaxed.{higher_of, raised}
-use Rattle.digraph.specs.Inner.{Queued, Graph, Progress, Settled}
+use Rattle.digraph.specs.Inner.{Queued, Graph, Progress, Settled, Stepped}
+use Rattle.digraph.specs.declared.Sorting.{Sorting}
 use Rattle.digraph.proofs.Relaxation.{raised_kept, raised_above, raised_attained}
 use Rattle.digraph.proofs.Waits.{some, waiting_less, once, room, queue_past, queue_passed}
 
@@ -174,13 +176,13 @@ module _ {edges : ℕ} {to : List ℕ} (G : Graph edges to) where
           inside = omega (arith, T.inside);
         }
 
-        pub next : (t : ℕ) → t ≡ bit (eqb (get_or waiting w 0 - 1) 0) → Turn Ahead' head v d (set waiting w (get_or waiting w 0 - 1)) level' (set queue tail w) (tail + t)
+        next : (t : ℕ) → t ≡ bit (eqb (get_or waiting w 0 - 1) 0) → Turn Ahead' head v d (set waiting w (get_or waiting w 0 - 1)) level' (set queue tail w) (tail + t)
         next t e =
             turn (queue_passed T.progress.queued G.within.few_nodes T.progress.waiting_in.size w end_in edge_waits t e)
             (λ i l. get_or-set_other queue tail i w 0 (omega arith)) (omega arith)
 
     -- no edge is passed, and something is stored past the queue's end
-    pub skip : (Ahead' : ℕ → Type 0) → ((j : ℕ) → Ahead j → Ahead' j) → ((j : ℕ) → Ahead' j → Ahead j) → (x : ℕ) → Turn Ahead' head v d waiting level (set queue tail x) tail
+    skip : (Ahead' : ℕ → Type 0) → ((j : ℕ) → Ahead j → Ahead' j) → ((j : ℕ) → Ahead' j → Ahead j) → (x : ℕ) → Turn Ahead' head v d waiting level (set queue tail x) tail
     skip Ahead' still back x = record {
       waits = T.waits;
       progress = record { waiting_in = P.waiting_in; queued = queue_past P.queued x; attained = P.attained; climbs = P.climbs; low = P.low };
@@ -210,3 +212,44 @@ module _ {edges : ℕ} {to : List ℕ} (G : Graph edges to) where
       left = λ j b f. let (i, h, q) = T.left j b f in (i, omega arith, q);
       inside = omega (arith, T.inside);
     }
+
+  -- ---- the same as the code does it
+
+  module _ {Ahead : ℕ → Type 0} {head v d w out : ℕ} {s s' : Sorting} (S : Stepped w d out s s') (T : Turn Ahead head v d s.waiting s.level s.queue s.end) (Ahead' : ℕ → Type 0) where
+    -- an edge to w is passed
+    pub step : out ≡ 1 → (k : ℕ) → Ahead k → w ≡ get_or to k 0
+        → ((j : ℕ) → Ahead j → (j ≡ k) ⊎ Ahead' j) → ((j : ℕ) → Ahead' j → Ahead j × (j ≢ k)) → Turn Ahead' head v d s'.waiting s'.level s'.queue s'.end
+    step one k a ew split rest = rw (rw one at S.waiting_is, queue_is, end_is) (next T k a w ew s'.level (rw one at S.level_is) Ahead' split rest _ refl)
+      where
+        queue_is : s'.queue ≡ set s.queue s.end w
+        queue_is = let z : s.end % 256 ≡ s.end = omega (arith, end_room T k a w ew) in rw z at S.queue_is
+
+        zero_test : (x : ℕ) → ltb x 1 ≡ eqb x 0
+        zero_test x = by_cases (ℕ_discrete x 0) (λ e. lt-ltb x 1 (omega arith) ∙ sym (eq-eqb x 0 e)) (λ n. le-ltb x 1 (omega arith) ∙ sym (ne_eqb x 0 n))
+
+        end_is : s'.end ≡ s.end + bit (eqb (get_or s.waiting w 0 - 1) 0)
+        end_is = rw one at S.end_is ∙ ap (λ b. s.end + bit b) (zero_test (get_or s.waiting w 0 - 1))
+
+    -- none is passed
+    pub stay : out ≡ 0 → w ≡ v → s.end < 256 → ((j : ℕ) → Ahead j → Ahead' j) → ((j : ℕ) → Ahead' j → Ahead j) → Turn Ahead' head v d s'.waiting s'.level s'.queue s'.end
+    stay none here small still back = rw (waiting_is, level_is, queue_is, end_is) (skip T Ahead' still back w)
+      where
+        waiting_is : s'.waiting ≡ s.waiting
+        waiting_is = let e : get_or s.waiting w 0 - out ≡ get_or s.waiting w 0 = omega arith in rw e at S.waiting_is ∙ set-get_or s.waiting w 0
+
+        level_is : s'.level ≡ s.level
+        level_is = let e : max (get_or s.level w 0) (d + out) ≡ get_or s.level w 0 = omega (arith, ap (λ x. get_or s.level x 0) here, T.value) in rw e at S.level_is ∙ set-get_or s.level w 0
+
+        queue_is : s'.queue ≡ set s.queue s.end w
+        queue_is = let z : s.end % 256 ≡ s.end = omega arith in rw z at S.queue_is
+
+        end_is : s'.end ≡ s.end
+        end_is = omega (arith, S.end_is, ap bit (le-ltb (get_or s.waiting w 0 - out) out (omega arith)))
+
+-- the queue's end moves on by one at most
+pub end_moves : {w row out : ℕ} {s s' : Sorting} → Stepped w row out s s' → (s.end ≤ s'.end) × (s'.end ≤ s.end + 1)
+end_moves {w} {out} {s} S = omega (arith, S.end_is, at_most_one (ltb (get_or s.waiting w 0 - out) out))
+  where
+    at_most_one : (b : Bool) → bit b ≤ 1
+    at_most_one true = omega arith
+    at_most_one false = omega arith

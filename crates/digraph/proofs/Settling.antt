@@ -14,10 +14,12 @@ use Rattle.counting.specs.Paths.{Path}
 use Rattle.counting.specs.Paths.Path.{here}
 use Rattle.counting.proofs.Counts.{count_all, count_onto, count_full, count_gap}
 use Rattle.counting.proofs.Paths.{before, circle}
-use Rattle.digraph.specs.Digraph.{Layering, Leads, Leveled, flat}
+use Rattle.digraph.specs.Digraph.{Layering, Within, Leads, Leveled, flat}
+use Rattle.digraph.specs.declared.Sorting.{Sorting}
+use Rattle.digraph.specs.declared.Lists.{Lists}
 use Rattle.digraph.specs.Relaxed.{found, levels_of}
 use Rattle.digraph.proofs.Tests.{within_true}
-use Rattle.digraph.specs.Inner.{into, ready, Waiting, Queued, Graph, Settled}
+use Rattle.digraph.specs.Inner.{into, ready, Chained, Waiting, Queued, Graph, Listing, Settled, Underway, Onward}
 use Rattle.digraph.proofs.Relaxation.{flat_at, flat_attained, source_in, climbs_leveled, circle_leveled, right}
 
 module _ {edges : ℕ} {to : List ℕ} (G : Graph edges to) where
@@ -85,3 +87,18 @@ module _ {edges : ℕ} {to : List ℕ} (G : Graph edges to) where
         go : (b : Bool) → leb G.nodes tail ≡ b → then_some b level ≡ found (levels_of G.nodes edges G.from to)
         go true e = rw (is (record { acyclic = true; level = level }) (acyclic (leb-true _ _ e))) refl
         go false e = rw (is (record { acyclic = false; level = flat }) (cyclic (leb-false _ _ e))) refl
+
+-- from the lists of a digraph and the first state on
+module _ {nodes edges : ℕ} {from to : List ℕ} (W : Within nodes edges from to) (l : Lists) (C : (l.edges ≡ edges) × (l.to.now ≡ to) × Chained 0 edges from l.first l.after)
+    (s : Sorting) (A : Waiting edges to (λ j. true) s.waiting) (Q : Queued nodes s.waiting s.queue s.end) (z : s.level ≡ flat) where
+  abbrev listing : Listing l.edges l.to.now l.first l.after
+  listing = record { graph = record { nodes = nodes; from = from; within = rw (C.0, C.1) W }; chained = rw C.0 C.2 }
+
+  first : Settled listing.graph 0 s.waiting s.level s.queue s.end
+  first = rw z (start listing.graph (rw (C.0, C.1) A) Q)
+
+  pub underway : Underway l 0 s
+  underway = record { listing = listing; settled = first }
+
+  pub answer : (s' : Sorting) → Onward l 0 s s'.end s' → then_some (leb nodes s'.end) s'.level ≡ found (levels_of nodes edges from to)
+  answer s' O = rw (C.0, C.1) at (outcome listing.graph (O listing first))

@@ -1,7 +1,9 @@
 -- What the functions promise each other while the nodes are put in topological order and each edge is passed once.
-use Rattle.std.specs.Prelude.{◌≡◌, Bool, false, ◌&&◌, List, ℕ, ◌+◌, ◌≤◌, ◌<◌, eqb, get_or, length}
-use Rattle.counting.specs.Counts.{count}
+use Rattle.std.specs.Prelude.{◌≡◌, Bool, false, ◌&&◌, List, ℕ, ◌+◌, ◌-◌, ◌%◌, ◌≤◌, ◌<◌, max, eqb, ltb, get_or, set, length}
+use Rattle.counting.specs.Counts.{bit, count}
 use Rattle.counting.specs.Paths.{Path}
+use Rattle.digraph.specs.declared.Sorting.{Sorting}
+use Rattle.digraph.specs.declared.Lists.{Lists}
 use Rattle.digraph.specs.Digraph.{Leads, Within}
 
 -- ---- Lists of edges by one of their two ends: for each node the first edge at it, and after each edge the next.
@@ -76,14 +78,20 @@ pub record Settled {edges : ℕ} {to : List ℕ} (G : Graph edges to) (head : �
   pub left : (j : ℕ) → j < edges → waits j ≡ false → (i : ℕ) × (i < head) × (get_or queue i 0 ≡ get_or G.from j 0)
   pub inside : head ≤ tail
 
+-- one edge to w is passed from a node at the level `row`, where `out` is 1: w is raised above the row, an edge less waits for it, and it goes into the queue where none does.
+-- Where `out` is 0 nothing changes but what is stored past the queue's end, if the row is not above the level of w.
+pub record Stepped (w row out : ℕ) (s s' : Sorting) : Type 0 where
+  pub waiting_is : s'.waiting ≡ set s.waiting w (get_or s.waiting w 0 - out)
+  pub level_is : s'.level ≡ set s.level w (max (get_or s.level w 0) (row + out))
+  pub queue_is : s'.queue ≡ set s.queue (s.end % 256) w
+  pub end_is : s'.end ≡ s.end + bit (ltb (get_or s.waiting w 0 - out) out)
+
 -- some digraph has these lists, and the edges out of the queue's first `head` nodes are passed
-pub record Underway (edges : ℕ) (to first after : List ℕ) (head : ℕ) (waiting level queue : List ℕ) (tail : ℕ) : Type 0 where
-  pub listing : Listing edges to first after
-  pub settled : Settled listing.graph head waiting level queue tail
+pub record Underway (l : Lists) (head : ℕ) (s : Sorting) : Type 0 where
+  pub listing : Listing l.edges l.to.now l.first l.after
+  pub settled : Settled listing.graph head s.waiting s.level s.queue s.end
 
 -- in every digraph with these lists: if before the edges out of the queue's first `head` nodes were passed, after it those out of its first `head'` are
-abbrev pub Onward : (edges : ℕ) (to first after : List ℕ)
-    (head : ℕ) (waiting level queue : List ℕ) (tail : ℕ)
-    (head' : ℕ) (waiting' level' queue' : List ℕ) (tail' : ℕ) → Type 0
-Onward edges to first after head waiting level queue tail head' waiting' level' queue' tail' =
-    (L : Listing edges to first after) → Settled L.graph head waiting level queue tail → Settled L.graph head' waiting' level' queue' tail'
+abbrev pub Onward : Lists → ℕ → Sorting → ℕ → Sorting → Type 0
+Onward l head s head' s' =
+    (L : Listing l.edges l.to.now l.first l.after) → Settled L.graph head s.waiting s.level s.queue s.end → Settled L.graph head' s'.waiting s'.level s'.queue s'.end

@@ -1,7 +1,7 @@
 -- One ring at each vertex: the ring of one dart of each has as many darts as the vertex, all at it. Assumes nothing.
 use Prim.Native.Nat.{ℕ, zero, suc, ◌+◌, ◌-◌, ◌≤◌, ◌<◌}
 use mathlib.Core.Path.{◌≡◌, refl, sym, ap, ◌∙◌}
-use mathlib.Core.Logic.{◌≢◌, ◌⊎◌, inl, inr, ⊎_elim, by_cases}
+use mathlib.Core.Logic.{◌≢◌, by_cases}
 use mathlib.Core.Bool.{Bool, true, false, not, ◌&&◌, ◌||◌}
 use mathlib.Core.List.{List}
 use native.Mathlib.Decide.{ℕ_discrete, dec_lt}
@@ -32,30 +32,21 @@ split false b q = clash q refl
 
 -- ---- a dart of each vertex
 
-pub held_none : (at : List ℕ) → Held 0 at (replicate 128 512)
-held_none at = record {
-  full = length-replicate {A = ℕ} 128 512;
-  there = λ v l. inl (get_or-replicate {A = ℕ} 128 v 512 0 l);
-  some = λ d l. absurd (omega arith);
-}
+pub held_none : (at : List ℕ) → Held 0 at (replicate 128 0)
+held_none at = record { full = length-replicate {A = ℕ} 128 0; some = λ d l. absurd (omega arith) }
 
 pub held_more : {k : ℕ} {at held : List ℕ} → Held k at held → (v : ℕ) → v ≡ get_or at k 0 → v < 128 → Held (k + 1) at (set held v k)
 held_more {k} {at} {held} h v e b = record {
   full = length-set held v k ∙ h.full;
-  there = λ u l. at_u u l (put u);
-  some = λ d l. of_d d l (put (get_or at d 0));
+  some = λ d l. of_d d l (stored held v k (get_or at d 0) 0 (omega (arith, h.full)));
 }
   where
-    put : (u : ℕ) → Stored held v k u 0
-    put u = stored held v k u 0 (omega (arith, h.full))
-
-    at_u : (u : ℕ) → u < 128 → Stored held v k u 0 → (get_or (set held v k) u 0 ≡ 512) ⊎ ((get_or (set held v k) u 0 < k + 1) × (get_or at (get_or (set held v k) u 0) 0 ≡ u))
-    at_u u l (here p q) = inr (omega (arith, q), ap (λ x. get_or at x 0) q ∙ sym e ∙ sym p)
-    at_u u l (apart n q) = rw q (⊎_elim inl (λ t. inr (omega (arith, t.0), t.1)) (h.there u l))
-
-    of_d : (d : ℕ) → d < k + 1 → Stored held v k (get_or at d 0) 0 → get_or (set held v k) (get_or at d 0) 0 < k + 1
-    of_d d l (here p q) = omega (arith, q)
-    of_d d l (apart n q) = by_cases (ℕ_discrete d k) (λ z. absurd (n (ap (λ x. get_or at x 0) z ∙ sym e))) (λ z. omega (arith, q, h.some d (omega arith)))
+    of_d : (d : ℕ) → d < k + 1 → Stored held v k (get_or at d 0) 0
+        → (get_or (set held v k) (get_or at d 0) 0 < k + 1) × (get_or at (get_or (set held v k) (get_or at d 0) 0) 0 ≡ get_or at d 0)
+    of_d d l (here p q) = (omega (arith, q), ap (λ x. get_or at x 0) q ∙ sym e ∙ sym p)
+    of_d d l (apart n q) =
+        by_cases (ℕ_discrete d k) (λ z. absurd (n (ap (λ x. get_or at x 0) z ∙ sym e)))
+        (λ z. let (i, t) = h.some d (omega arith) in rw q (omega arith, t))
 
 -- ---- how many darts a vertex has
 
@@ -182,10 +173,6 @@ module _ {n : ℕ} {at nexts : List ℕ} {start v d steps : ℕ} (G : Going n at
       more = going_on G e next refl (rw next (O.permuted.below d (going_in G))) (ap (entries at) next ∙ O.stays d (going_in G) ∙ ap (entries at) G.place ∙ G.there steps (omega arith)) q
 
 -- ---- the rings of all vertices
-
--- the dart that is held for a vertex is there
-pub held_there : {n : ℕ} {at held : List ℕ} → Readable n at → Held n at held → (u : ℕ) → u < 128 → get_or held u 0 < n → get_or at (get_or held u 0) 0 ≡ u
-held_there r H u l b = ⊎_elim (λ z. absurd (omega (arith, r.few))) (λ t. t.1) (H.there u l)
 
 -- every dart is on the ring of the dart that is held for its vertex
 module _ {n : ℕ} {at nexts held : List ℕ} (on : (d : ℕ) → d < n → Covered n at nexts held d) where

@@ -1,11 +1,13 @@
 -- The rings and the levels in one pass: what the functions behind it promise each other.
-use Rattle.std.specs.Prelude.{ℕ, ◌+◌, ◌-◌, ◌*◌, ◌/◌, ◌%◌, ◌≤◌, ◌<◌, max, ◌≡◌, ◌≢◌, ◌⊎◌, Bool, false, cond, not, ◌&&◌, ◌||◌, List, eqb, ltb, get_or, set, length}
+use Rattle.std.specs.Prelude.{ℕ, ◌+◌, ◌*◌, ◌/◌, ◌%◌, ◌≤◌, ◌<◌, ◌≡◌, ◌≢◌, Bool, false, cond, not, ◌&&◌, ◌||◌, List, eqb, get_or, length}
 use Rattle.counting.specs.Below.{all_below}
-use Rattle.counting.specs.Counts.{bit, count}
+use Rattle.counting.specs.Counts.{count}
 use Rattle.counting.specs.Orbits.{Perm, iter, Reach}
 use Rattle.orbits.specs.Tables.{traced, is_permutation}
 use Rattle.orbits.specs.Meaning.{entries}
 use Rattle.digraph.specs.Digraph.{Layering, flat}
+use Rattle.digraph.specs.declared.Sorting.{Sorting}
+use Rattle.rings.specs.declared.Darts.{Darts}
 use Rattle.digraph.specs.Relaxed.{levels_of}
 use Rattle.digraph.specs.Inner.{Graph, Settled}
 use Rattle.clauses.specs.Inner.{dart_table, vertex_of}
@@ -33,11 +35,10 @@ pub record Readable (n : ℕ) (at : List ℕ) : Type 0 where
   pub few : n ≤ 512
   pub at_in : (d : ℕ) → d < n → get_or at d 0 < 128
 
--- `held` has one of the first k darts at each vertex that has one of them, and 512 at the others
+-- `held` has one of the first k darts at each vertex that has one of them
 pub record Held (k : ℕ) (at held : List ℕ) : Type 0 where
   pub full : length held ≡ 128
-  pub there : (v : ℕ) → v < 128 → (get_or held v 0 ≡ 512) ⊎ ((get_or held v 0 < k) × (get_or at (get_or held v 0) 0 ≡ v))
-  pub some : (d : ℕ) → d < k → get_or held (get_or at d 0) 0 < k
+  pub some : (d : ℕ) → d < k → (get_or held (get_or at d 0) 0 < k) × (get_or at (get_or held (get_or at d 0) 0) 0 ≡ get_or at d 0)
 
 -- the next darts permute the n darts and keep to the vertex, and the darts of a vertex are in one ring
 pub record OneRingEach (n : ℕ) (at nexts : List ℕ) : Type 0 where
@@ -84,31 +85,17 @@ head_of at d = get_or at (d / 2 * 2 + 1) 0
 abbrev pub out_of : ℕ → ℕ
 out_of d = (d + 1) % 2
 
--- A dart at its edge's tail is passed: the edge's head is raised above the level `row`, one edge less waits for it, and it goes into the queue where none does.
--- By a dart at its edge's head nothing changes but what is stored past the queue's end.
-pub record Stepped (d row : ℕ) (at waiting level queue : List ℕ) (tail : ℕ) (waiting' level' queue' : List ℕ) (tail' : ℕ) : Type 0 where
-  pub waiting_is : waiting' ≡ set waiting (head_of at d) (get_or waiting (head_of at d) 0 - out_of d)
-  pub level_is : level' ≡ set level (head_of at d) (max (get_or level (head_of at d) 0) (row + out_of d))
-  pub queue_is : queue' ≡ set queue (tail % 256) (head_of at d)
-  pub tail_is : tail' ≡ tail + bit (ltb (get_or waiting (head_of at d) 0 - out_of d) (out_of d))
-
 -- some digraph has these darts, the edges out of the queue's first `head` vertices are passed, and a dart of each vertex is held
-pub record Underway (darts : ℕ) (at held degree : List ℕ) (head : ℕ) (waiting level queue : List ℕ) (tail : ℕ) : Type 0 where
-  pub placed : Placed darts at
-  pub settled : Settled placed.graph head waiting level queue tail
-  pub held_in : Held darts at held
-  pub degrees : Degrees darts at degree
+pub record Underway (r : Darts) (head : ℕ) (s : Sorting) : Type 0 where
+  pub placed : Placed r.count r.at
+  pub settled : Settled placed.graph head s.waiting s.level s.queue s.end
+  pub held_in : Held r.count r.at r.held
+  pub degrees : Degrees r.count r.at r.degree
 
--- in every digraph with these darts: if before the edges out of the queue's first `head` vertices were passed, after it those out of its first `head'` are
-abbrev pub Onward : (darts : ℕ) (at : List ℕ)
-    (head : ℕ) (waiting level queue : List ℕ) (tail : ℕ)
-    (head' : ℕ) (waiting' level' queue' : List ℕ) (tail' : ℕ) → Type 0
-Onward darts at head waiting level queue tail head' waiting' level' queue' tail' =
-    (P : Placed darts at) → Settled P.graph head waiting level queue tail → Settled P.graph head' waiting' level' queue' tail'
-
--- the darts of the queue's vertices from `head` up to `head'` are on their rings, and the edges out of them are passed
-pub record PassedOn (darts : ℕ) (at nexts held : List ℕ) (head : ℕ) (waiting level queue : List ℕ) (tail : ℕ) (head' : ℕ) (waiting' level' queue' : List ℕ) (tail' : ℕ) : Type 0 where
-  pub onward : Onward darts at head waiting level queue tail head' waiting' level' queue' tail'
-  pub kept : (i : ℕ) → i < tail → get_or queue' i 0 ≡ get_or queue i 0
-  pub longer : tail ≤ tail'
-  pub covers : (i d : ℕ) → head ≤ i → i < head' → d < darts → get_or at d 0 ≡ get_or queue' i 0 → Covered darts at nexts held d
+-- The darts of the queue's vertices from `head` up to `head'` are on their rings, and the edges out of them are passed: in every digraph with these darts,
+-- if before the edges out of the queue's first `head` vertices were passed, after it those out of its first `head'` are.
+pub record PassedOn (r : Darts) (head : ℕ) (s : Sorting) (head' : ℕ) (s' : Sorting) : Type 0 where
+  pub onward : (P : Placed r.count r.at) → Settled P.graph head s.waiting s.level s.queue s.end → Settled P.graph head' s'.waiting s'.level s'.queue s'.end
+  pub kept : (i : ℕ) → i < s.end → get_or s'.queue i 0 ≡ get_or s.queue i 0
+  pub longer : s.end ≤ s'.end
+  pub covers : (i d : ℕ) → head ≤ i → i < head' → d < r.count → get_or r.at d 0 ≡ get_or s'.queue i 0 → Covered r.count r.at r.nexts.now r.held d

@@ -1,32 +1,36 @@
 -- `levels` meets its contract. Assumes nothing.
-use Rattle.std.proofs.Common.{◌∙◌, arith}
-use Rattle.digraph.specs.Digraph.{flat}
-use Rattle.rings.proofs.Rings.{degrees_none}
+use Rattle.std.proofs.Common.{refl, ◌∙◌, arith}
 use Rattle.rings.proofs.Walking.{placed_readable}
 use Rattle.rings.proofs.Outcome.{placed, no_rings, underway, answer}
 use Rattle.rings.proofs.levels.Goals as goal
 
-pub some_darts-held-requires : goal.some_darts-held-requires
-some_darts-held-requires c =
-    let p = c.requires in
-    (placed_readable (placed _ _ _ _ p.0 p.1 p.2 _ c.places-at.ensures), degrees_none _)
+pub of-darts-requires : goal.of-darts-requires
+of-darts-requires c =
+    let (few, T, H) = c.requires in
+    placed_readable (placed few T H refl c.places.ensures)
 
-pub waiting_edges-waiting-requires : goal.waiting_edges-waiting-requires
-waiting_edges-waiting-requires c = let p = c.requires in (p.2.few, λ k l. omega (arith, p.2.inside k l, p.0))
+pub start-sorting-requires : goal.start-sorting-requires
+start-sorting-requires c =
+    let (few, T, H) = c.requires in
+    (omega arith, H.few, λ k l. omega (arith, H.inside k l))
 
 pub settle-requires : goal.settle-requires
-unfolding flat
 settle-requires c =
-    let p = c.requires in
-    underway _ _ _ _ p.0 p.1 p.2 _ c.places-at.ensures c.waiting_edges-waiting.ensures c.sources-end.ensures c.some_darts-held.ensures.0 c.some_darts-held.ensures.1
+    let (few, T, H) = c.requires in
+    let (ec, ea, en, D, E) = c.of-darts.ensures in
+    let s = c.start-sorting.ensures in
+    underway few T H _ ec (ea ∙ c.places.ensures) D E _ s.waiting s.queued s.level
 
-pub returns-in_err-queued : goal.returns-in_err-queued
-returns-in_err-queued c =
-    let p = c.requires in
-    c.from_residual.ensures ∙ no_rings _ _ _ _ p.0 p.1 p.2 _ c.places-at.ensures _ c.in_err-queued.ensures
+pub returns-then-not-settle : goal.returns-then-not-settle
+returns-then-not-settle c =
+    let (few, T, H) = c.requires in
+    let (ec, ea, en, D, E) = c.of-darts.ensures in
+    rw en at (no_rings few T H ec (ea ∙ c.places.ensures) _ (c.settle.ensures.none c.if-not-settle.true))
 
 pub returns : goal.returns
-unfolding flat
 returns c =
-    let p = c.requires in
-    c.then_some.ensures ∙ answer _ _ _ _ p.0 p.1 p.2 _ c.places-at.ensures c.waiting_edges-waiting.ensures c.sources-end.ensures c.some_darts-held.ensures.0 c.some_darts-held.ensures.1 c.in_ok-queued.ensures
+    let (few, T, H) = c.requires in
+    let (ec, ea, en, D, E) = c.of-darts.ensures in
+    let s = c.start-sorting.ensures in
+    let O = c.settle.ensures.rings c.if-not-settle.false in
+    c.then_some.ensures ∙ rw en at (answer few T H c.of-darts.result ec (ea ∙ c.places.ensures) D E c.start-sorting.result s.waiting s.queued s.level c.settle.new.sorting O)

@@ -1,7 +1,7 @@
--- `chain` meets its contract, which is its loop's invariant at edge 0. Assumes nothing.
-use Rattle.std.proofs.Common.{◌≡◌, suc, ◌-◌, arith}
+-- `Lists::chain` meets its contract, which is its loop's invariant at edge 0. Assumes nothing.
+use Rattle.std.proofs.Common.{◌≡◌, refl, suc, ◌-◌, arith}
 use Rattle.digraph.proofs.Chaining.{unchained, chained_more}
-use Rattle.digraph.proofs.chain.Goals as goal
+use Rattle.digraph.proofs.Lists.chain.Goals as goal
 
 pub loop-k-init : goal.loop-k-init
 loop-k-init c = unchained _ _ c.requires.0
@@ -13,4 +13,4 @@ loop-k-preserved c =
     chained_more (rw z at c.loop-k.invariant) (omega arith) s.0 _ c.from-v.ensures (omega (arith, c.from-v.ensures, s.1 (c.loop-k.k - 1) (omega arith))) s.1
 
 pub returns : goal.returns
-returns c = let z : c.loop-k.k ≡ 0 = omega arith in rw z at c.loop-k.invariant
+returns c = let z : c.loop-k.k ≡ 0 = omega arith in (refl, refl, rw z at c.loop-k.invariant)
