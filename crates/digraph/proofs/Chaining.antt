@@ -1,12 +1,8 @@
 -- The lists of edges by one of their ends, built from the last edge down. Assumes nothing.
-use mathlib.Core.Path.{◌≡◌, refl, sym, ap, ◌∙◌}
-use mathlib.Core.Logic.{◌≢◌, ◌⊎◌, inl, inr, ⊎_elim, by_cases}
-use mathlib.Core.List.{List}
-use Prim.Native.Nat.{ℕ, suc, ◌≤◌, ◌<◌}
+use Rattle.std.proofs.Common.{◌≡◌, refl, sym, ap, ◌∙◌, ◌≢◌, ◌⊎◌, inl, inr, ⊎_elim, List, ℕ, suc, ◌≤◌, ◌<◌, arith, get_or, set, length-set, replicate, get_or-set_same, get_or-set_other}
+use mathlib.Core.Logic.{by_cases}
 use native.Mathlib.Decide.{ℕ_discrete}
-use native.Mathlib.Omega.{arith}
-use lib.ListN.{get_or, set, length-set, replicate, get_or-replicate}
-use lib.Seq.{get_or-set_same, get_or-set_other}
+use lib.ListN.{get_or-replicate}
 use Rattle.digraph.specs.Inner.{Listed, Chained}
 use Rattle.digraph.specs.Inner.Listed.{at_head, later}
 

@@ -1,8 +1,5 @@
 -- Levels of small digraphs, by computing. Assumes nothing.
-use mathlib.Core.Path.{◌≡◌, refl}
-use mathlib.Core.Bool.{true, false}
-use mathlib.Core.List.{[], ◌∷◌, ◌++◌}
-use lib.ListN.{replicate}
+use Rattle.std.proofs.Common.{◌≡◌, refl, true, false, [], ◌∷◌, ◌++◌, replicate}
 use Rattle.digraph.specs.Digraph.{flat}
 use Rattle.digraph.specs.Relaxed.{joins, within_of, raised, relaxed, rounds, climbs, answer, levels_of}
 

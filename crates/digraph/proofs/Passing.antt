@@ -1,16 +1,8 @@
 -- The edges out of one node are passed. Assumes nothing.
-use mathlib.Core.Path.{◌≡◌, refl, sym, ap, ◌∙◌}
-use mathlib.Core.Logic.{◌≢◌, ◌⊎◌, inl, inr, ⊎_elim, by_cases}
-use mathlib.Core.Bool.{Bool, true, false}
-use mathlib.Core.List.{List}
-use Prim.Native.Nat.{ℕ, suc, ◌+◌, ◌-◌, ◌%◌, ◌≤◌, ◌<◌, max}
+use Rattle.std.proofs.Common.{◌≡◌, refl, sym, ap, ◌∙◌, ◌≢◌, ◌⊎◌, inl, inr, ⊎_elim, Bool, true, false, List, ℕ, suc, ◌+◌, ◌-◌, ◌%◌, ◌≤◌, ◌<◌, max, arith, add-one, eqb, ltb, eq-eqb, ne_eqb, lt-ltb, le-ltb, get_or, set, length, get_or-set_other}
+use mathlib.Core.Logic.{by_cases}
 use native.Mathlib.Decide.{ℕ_discrete}
-use native.Mathlib.Omega.{arith}
-use native.Mathlib.Numerals.{add-one}
-use lib.Dec.{eqb, ltb}
-use borrow.Author.Tests.{eq-eqb, ne_eqb, lt-ltb, le-ltb}
-use lib.ListN.{get_or, set, length}
-use lib.Seq.{get_or-set_other, set-get_or}
+use lib.Seq.{set-get_or}
 use Rattle.counting.specs.Counts.{bit, count}
 use Rattle.counting.proofs.Counts.{without, without_same, without_other, count_without}
 use Rattle.counting.proofs.Stores.{Stored, stored}

@@ -1,20 +1,15 @@
 -- What `levels_of` means: the greatest lengths of paths, or a circle. Assumes nothing.
-use mathlib.Core.Path.{◌≡◌, refl, sym, ap, ◌∙◌}
+use Rattle.std.proofs.Common.{◌≡◌, refl, sym, ap, ◌∙◌, Bool, true, false, not, ◌&&◌, true≢false, List, ℕ, zero, suc, ◌≤◌, ◌<◌, arith, get_or, set, length, length-set, replicate, ext_get_or, Some, None}
 use mathlib.Core.Logic.{by_cases}
-use mathlib.Core.Bool.{Bool, true, false, not, ◌&&◌, true≢false, false≢true}
-use mathlib.Core.List.{List}
-use Prim.Native.Nat.{ℕ, zero, suc, ◌≤◌, ◌<◌}
+use mathlib.Core.Bool.{false≢true}
 use native.Mathlib.Decide.{ℕ_discrete, dec_lt}
-use native.Mathlib.Omega.{arith}
-use lib.ListN.{get_or, set, length, length-set, get_or-replicate, replicate, get_or-eq_default}
-use lib.Seq.{ext_get_or}
+use lib.ListN.{get_or-replicate, get_or-eq_default}
 use Rattle.counting.specs.Paths.{Path, Circle}
 use Rattle.counting.specs.Paths.Path.{here, more}
 use Rattle.counting.proofs.Paths.{append, circle}
 use Rattle.digraph.specs.Digraph.{Layering}
 use Rattle.digraph.specs.Digraph.{Leads, Within, Leveled, flat}
 use Rattle.digraph.specs.Relaxed.{higher_of, raised, relaxed, rounds, climbs, answer, within_of, found, levels_of, LevelsMean}
-use Rattle.std.specs.Prelude.{Some, None}
 use Rattle.std.specs.Option.{is_none, unwrap_or}
 use Rattle.std.specs.Bool.{then_some}
 use Rattle.digraph.specs.Inner.{Attained}

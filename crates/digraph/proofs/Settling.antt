@@ -1,14 +1,9 @@
 -- The whole queue: all nodes came into it, and their levels are right; or some did not, and there is a circle. Assumes nothing.
-use mathlib.Core.Path.{◌≡◌, refl, sym, ◌∙◌}
+use Rattle.std.proofs.Common.{◌≡◌, refl, sym, ◌∙◌, Bool, true, false, true≢false, List, ℕ, zero, suc, ◌≤◌, ◌<◌, arith, get_or, eqb-true, leb-true, leb-false, leb}
 use mathlib.Core.Logic.{by_cases}
-use mathlib.Core.Bool.{Bool, true, false, and-eq-true_iff, true≢false}
-use mathlib.Core.List.{List}
-use Prim.Native.Nat.{ℕ, zero, suc, ◌≤◌, ◌<◌}
+use mathlib.Core.Bool.{and-eq-true_iff}
 use native.Mathlib.Decide.{ℕ_discrete}
-use native.Mathlib.Omega.{arith}
-use lib.ListN.{get_or}
-use borrow.Author.Tests.{eqb-true, eqb-false, leb-true, leb-false}
-use lib.Dec.{leb}
+use borrow.Author.Tests.{eqb-false}
 use Rattle.std.specs.Bool.{then_some}
 use Rattle.counting.specs.Paths.{Path}
 use Rattle.counting.specs.Paths.Path.{here}
@@ -19,6 +14,7 @@ use Rattle.digraph.specs.declared.Sorting.{Sorting}
 use Rattle.digraph.specs.declared.Lists.{Lists}
 use Rattle.digraph.specs.Relaxed.{found, levels_of}
 use Rattle.digraph.proofs.Tests.{within_true}
+use Rattle.digraph.proofs.Waits.{tail_in}
 use Rattle.digraph.specs.Inner.{into, ready, Chained, Waiting, Queued, Graph, Listing, Settled, Underway, Onward}
 use Rattle.digraph.proofs.Relaxation.{flat_at, flat_attained, source_in, climbs_leveled, circle_leveled, right}
 
@@ -102,3 +98,11 @@ module _ {nodes edges : ℕ} {from to : List ℕ} (W : Within nodes edges from t
 
   pub answer : (s' : Sorting) → Onward l 0 s s'.end s' → then_some (leb nodes s'.end) s'.level ≡ found (levels_of nodes edges from to)
   answer s' O = rw (C.0, C.1) at (outcome listing.graph (O listing first))
+
+-- ---- what the code looks at is in its array
+
+pub head_in : {l : Lists} {head : ℕ} {s : Sorting} → Underway l head s → head < s.end → head < 256
+head_in U h = omega (arith, tail_in U.settled.progress.queued, U.listing.graph.within.few_nodes)
+
+pub still_underway : {l : Lists} {head : ℕ} {s₀ s : Sorting} → Underway l 0 s₀ → Onward l 0 s₀ head s → Underway l head s
+still_underway U O = record { listing = U.listing; settled = O U.listing U.settled }

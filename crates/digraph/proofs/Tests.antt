@@ -1,17 +1,10 @@
 -- The tests of `levels_of` and what they say. Assumes nothing.
-use mathlib.Core.Path.{◌≡◌, refl, sym, subst, ◌∙◌}
+use Rattle.std.proofs.Common.{◌≡◌, refl, sym, subst, ◌∙◌, Bool, true, false, ◌&&◌, true≢false, List, ℕ, zero, suc, ◌≤◌, ◌<◌, arith, ltb, get_or, ltb-true, ltb-false, leb-true, lt-ltb, le-leb, length, take, length-take}
 use mathlib.Core.Logic.{by_cases}
-use mathlib.Core.Bool.{Bool, true, false, ◌&&◌, and-eq-true_iff, true≢false}
-use mathlib.Core.List.{List}
-use Prim.Native.Nat.{ℕ, zero, suc, ◌≤◌, ◌<◌}
+use mathlib.Core.Bool.{and-eq-true_iff}
 use native.Mathlib.Decide.{ℕ_discrete}
-use native.Mathlib.Omega.{arith}
-use lib.Dec.{ltb}
-use lib.ListN.{get_or}
-use borrow.Author.Tests.{ltb-true, ltb-false, leb-true, lt-ltb, le-leb}
 use Rattle.std.specs.List.{All}
 use Rattle.std.proofs.lemmas.Grind.{common_steps}
-use Rattle.std.proofs.Common.{length, take, length-take}
 use Rattle.std.proofs.lemmas.List.{get_or-take}
 use Rattle.digraph.specs.Digraph.{Within}
 use Rattle.digraph.specs.Relaxed.{joins, within_of, climbs}

@@ -1,18 +1,8 @@
 -- The counts of the edges that wait, and the queue of the nodes for which none waits. Assumes nothing.
-use mathlib.Core.Path.{◌≡◌, refl, sym, ap, ◌∙◌}
-use mathlib.Core.Logic.{◌≢◌, by_cases}
-use mathlib.Core.Bool.{Bool, true, false, not, ◌&&◌}
-use mathlib.Core.List.{List}
-use Prim.Native.Nat.{ℕ, suc, ◌+◌, ◌-◌, ◌≤◌, ◌<◌}
+use Rattle.std.proofs.Common.{◌≡◌, refl, sym, ap, ◌∙◌, ◌≢◌, Bool, true, false, not, ◌&&◌, List, ℕ, suc, ◌+◌, ◌-◌, ◌≤◌, ◌<◌, arith, add-one, eqb, get_or, set, length, length-set, replicate, get_or-set_same, get_or-set_other, eqb-true, eq-eqb, ne_eqb, below_more}
+use mathlib.Core.Logic.{by_cases}
 use native.Mathlib.Decide.{ℕ_discrete}
-use native.Mathlib.Omega.{arith}
-use native.Mathlib.Numerals.{add-one}
 use mir.Val.{bool_byte}
-use lib.Dec.{eqb}
-use lib.ListN.{get_or, set, length, length-set, replicate}
-use lib.Seq.{get_or-set_same, get_or-set_other}
-use borrow.Author.Tests.{eqb-true, eq-eqb, ne_eqb}
-use borrow.Author.Count.{below_more}
 use Rattle.counting.specs.Counts.{bit, count}
 use Rattle.counting.proofs.Counts.{without, without_same, without_other, count_agree, count_without, count_le, count_less, count_absent, all, count_all, onto_injective}
 use Rattle.counting.proofs.Stores.{Stored, stored}
@@ -195,3 +185,6 @@ module _ {n : ℕ} {waiting queue : List ℕ} {tail : ℕ} (Q : Queued n waiting
 
   pub queue_passed : (t : ℕ) → t ≡ bit (eqb (get_or waiting w 0 - 1) 0) → Queued n less (set queue tail w) (tail + t)
   queue_passed = moved w (get_or waiting w 0 - 1) queue_still queue_push
+
+-- there are fewer nodes in the queue than were looked at
+pub ruleset places = (tail_in, byte_small)

@@ -37,6 +37,7 @@ fn waiting_edges(edges: usize, to: &[u16; 256]) -> [u16; 256]
 }
 
 // Puts the nodes for which no edge waits in the queue; returns how many there are.
+#[tactic(auto, using(crate::proofs::Waits::places))]
 fn sources(nodes: usize, waiting: &[u16; 256], queue: &mut [u16; 256]) -> usize
     requires { (nodes ≤ 256) × (length queue.old ≡ 256) }
     ensures { Queued nodes waiting.now queue.new result }

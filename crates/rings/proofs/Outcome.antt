@@ -1,13 +1,5 @@
 -- All vertices: their rings and levels are right; or some ring is not, or there is a circle. Assumes nothing.
-use Prim.Native.Nat.{ℕ, ◌+◌, ◌*◌, ◌≤◌, ◌<◌}
-use mathlib.Core.Path.{◌≡◌, refl, sym, ◌∙◌}
-use mathlib.Core.Bool.{Bool, true, false}
-use mathlib.Core.List.{List}
-use Rattle.std.specs.Prelude.{None}
-use native.Mathlib.Omega.{arith}
-use lib.ListN.{get_or}
-use borrow.Author.Tests.{eqb-true, leb-true}
-use lib.Dec.{leb}
+use Rattle.std.proofs.Common.{ℕ, ◌+◌, ◌*◌, ◌≤◌, ◌<◌, ◌≡◌, refl, sym, ◌∙◌, Bool, true, false, List, None, arith, get_or, eqb-true, leb-true, leb}
 use Rattle.std.specs.Bool.{then_some}
 use Rattle.counting.proofs.Iterate.{by_bool, clash}
 use Rattle.counting.proofs.Counts.{count_full}

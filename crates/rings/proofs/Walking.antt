@@ -1,15 +1,9 @@
 -- A walk round one vertex passes the edges out of it. Assumes nothing.
-use Prim.Native.Nat.{ℕ, suc, ◌+◌, ◌*◌, ◌/◌, ◌%◌, ◌≤◌, ◌<◌}
-use mathlib.Core.Path.{◌≡◌, refl, sym, ap, ◌∙◌}
-use mathlib.Core.Logic.{◌≢◌, ◌⊎◌, inl, inr, by_cases}
-use mathlib.Core.Bool.{Bool, true, false, not, beq, true≢false, false≢true}
-use mathlib.Core.List.{List}
+use Rattle.std.proofs.Common.{ℕ, suc, ◌+◌, ◌*◌, ◌/◌, ◌%◌, ◌≤◌, ◌<◌, ◌≡◌, refl, sym, ap, ◌∙◌, ◌≢◌, ◌⊎◌, inl, inr, Bool, true, false, not, true≢false, List, arith, eq-eqb, eqb-true, eqb, get_or, get_or-set_other}
+use mathlib.Core.Logic.{by_cases}
+use mathlib.Core.Bool.{beq, false≢true}
 use native.Mathlib.Decide.{ℕ_discrete}
-use native.Mathlib.Omega.{arith}
-use borrow.Author.Tests.{eq-eqb, eqb-true, eqb-false}
-use lib.Dec.{eqb}
-use lib.ListN.{get_or}
-use lib.Seq.{get_or-set_other}
+use borrow.Author.Tests.{eqb-false}
 use Rattle.counting.specs.Counts.{count}
 use Rattle.counting.specs.Orbits.{iter}
 use Rattle.counting.proofs.Counts.{count_le, count_without, count_onto}
@@ -20,7 +14,7 @@ use Rattle.digraph.specs.Inner.{Graph, Settled, Stepped}
 use Rattle.digraph.proofs.Waits.{tail_in}
 use Rattle.digraph.proofs.Passing.{Turn, begin, step, stay, finish, end_moves}
 use Rattle.rings.specs.Inner.{Readable, Round, Placed, head_of, out_of, Underway, PassedOn}
-use Rattle.rings.proofs.Rings.{once, round_all, round_covers}
+use Rattle.rings.proofs.Rings.{going_in, once, round_all, round_covers}
 
 module _ {darts : ℕ} {at : List ℕ} (P : Placed darts at) where
   abbrev G : Graph P.edges P.to
@@ -229,4 +223,4 @@ one_more {head} A h B = record {
 }
 
 -- what is looked at is in its array
-pub ruleset places = (vertex_small)
+pub ruleset places = (vertex_small, dart_small, going_in)

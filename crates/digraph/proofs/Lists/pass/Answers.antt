@@ -3,19 +3,15 @@ use Rattle.std.proofs.Common.{refl, sym, arith}
 use Rattle.digraph.specs.Inner.{Listed}
 use Rattle.digraph.specs.Inner.Listed.{at_head}
 use Rattle.digraph.proofs.Chaining.{listed_in, list_in, split, later_on}
-use Rattle.digraph.proofs.Waits.{tail_in}
 use Rattle.digraph.proofs.Passing.{begin, end_in, end_room, low_level, step, finish}
+use Rattle.digraph.proofs.Settling.{head_in}
 use Rattle.digraph.proofs.Lists.pass.Goals as goal
 
 pub offset_bounds-sorting-head : goal.offset_bounds-sorting-head
-offset_bounds-sorting-head c =
-    let u = c.requires.1 in
-    omega (arith, c.requires.0, tail_in u.settled.progress.queued, u.listing.graph.within.few_nodes)
+offset_bounds-sorting-head c = omega (arith, head_in c.requires.1 c.requires.0)
 
 pub bounds-sorting-head : goal.bounds-sorting-head
-bounds-sorting-head c =
-    let u = c.requires.1 in
-    omega (arith, c.requires.0, tail_in u.settled.progress.queued, u.listing.graph.within.few_nodes)
+bounds-sorting-head c = head_in c.requires.1 c.requires.0
 
 pub loop-k-init : goal.loop-k-init
 loop-k-init c = λ L S.

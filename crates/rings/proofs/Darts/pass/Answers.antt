@@ -1,6 +1,5 @@
 -- `Darts::pass` meets its contract. Where the walk comes back after as many steps as the vertex has darts, the edges out of the vertex were passed on it, each once. Assumes nothing.
-use Rattle.std.proofs.Common.{◌≡◌, ◌<◌, ◌-◌, suc, refl, sym, ◌∙◌, arith}
-use mathlib.Core.Logic.{⊎_elim}
+use Rattle.std.proofs.Common.{◌≡◌, ◌<◌, ◌-◌, suc, refl, sym, ◌∙◌, arith, ⊎_elim}
 use Rattle.rings.proofs.Rings.{going_none, going_in, going_outside, going_elsewhere, going_early, going_long, going_back, going_on}
 use Rattle.rings.proofs.Walking.{walk_begin, walk_more, head_in, head_small, dart_small, level_small, none_passed, start_at, size_is, end_in, ring_passed, differ, agree}
 use Rattle.digraph.proofs.Passing.{end_moves}
@@ -38,12 +37,6 @@ pass_dart-requires c =
       level_small U h _ ev,
       end_in U h _ ev _ c.from-size.ensures c.if-size-eq0.false _ c.from-start.ensures c.loop-step-test.true c.loop-step.invariant.end_in,
     )
-
-pub offset_bounds-self-d : goal.offset_bounds-self-d
-offset_bounds-self-d c = omega (arith, dart_small c.requires.1 c.requires.0 (going_in c.loop-step.invariant.going))
-
-pub bounds-self-d : goal.bounds-self-d
-bounds-self-d c = dart_small c.requires.1 c.requires.0 (going_in c.loop-step.invariant.going)
 
 pub returns-then-self-d-clause-none : goal.returns-then-self-d-clause-none
 returns-then-self-d-clause-none c = λ _ O. elim c.then-self-d.branch [
