@@ -1,94 +1,137 @@
-// Numbers, keys and line ends of the text layouts, written to bytes.
+// Texts put into a buffer or counted: numbers, keys, line ends, and the lines of the text layouts.
 #![tactic(auto)]
 
-ghost use Rattle.std.specs.Prelude.{◌≡◌, ◌∷◌, ◌+◌, ◌*◌, ◌^◌, ◌<◌, ◌≤◌, length, take};
-ghost use Rattle.std.proofs.lemmas.List.Edits.{sets};
-ghost use Rattle.text.specs.Written.{decimal, line_end, line};
+ghost use Rattle.std.specs.Prelude.{◌≡◌, ℕ, List, [], ◌∷◌, ◌++◌, ◌+◌, ◌≤◌, ◌<◌, length};
+ghost use Rattle.std.below.core.specs.declared.int.usize.TheConstants.{MAX};
+ghost use Rattle.text.specs.Written.{decimal, line};
+ghost use Rattle.std.proofs.Common.{refl, ◌∙◌};
+ghost use Rattle.buffer.specs.Sinks.{Put, Counted, put_nothing, put_joined, put_size, counted_nothing, counted_joined};
 
-use counting::bit;
+// Where a text goes: into a buffer, or only into a count of its bytes.
+pub trait Sink {
+    // how many bytes were put, and how many can be
+    ghost used: { Self → ℕ };
 
-// How many digits a number has.
-fn digits(v: u16) -> usize
-    ensures { result ≡ length (decimal v) }
-{
-    1 + bit(9 < v) + bit(99 < v)
+    ghost size: { Self → ℕ };
+    // the second is the first with a text more
+    ghost puts: { Self → List ℕ → Self → Type 0 };
+
+    // Puts one byte.
+    fn byte(&mut self, b: u8)
+        requires { used self.old < size self.old }
+        ensures { puts self.old (b ∷ []) self.new };
+
+    // Puts bytes.
+    fn bytes(&mut self, bytes: &[u8])
+        requires { used self.old + length bytes.now ≤ size self.old }
+        ensures { puts self.old bytes.now self.new };
+
+    // Puts a number's digits.
+    fn number(&mut self, v: u16)
+        requires { used self.old + length (decimal v) ≤ size self.old }
+        ensures { puts self.old (decimal v) self.new };
+
+    ghost nothing: { (s : Self) → puts s [] s };
+
+    ghost joined: { (s t u : Self) (xs ys : List ℕ) → puts s xs t → puts t ys u → puts s (xs ++ ys) u };
+
+    ghost counted: { (s t : Self) (text : List ℕ) → puts s text t → (used t ≡ used s + length text) × (size t ≡ size s) };
 }
 
-// Puts bytes at a place of the buffer, and returns the place after them.
-pub fn put_bytes(out: &mut [u8], at: usize, bytes: &[u8]) -> usize
-    requires { at + length bytes.now ≤ length out.old }
-    ensures { (result ≡ at + length bytes.now) × (out.new ≡ sets out.old at bytes.now) }
-{
-    let mut i = at;
-    let mut j = 0;
-    while j < bytes.len() {
-        out[i] = bytes[j];
-        i += 1;
-        j += 1;
+// A buffer, and how much of it is filled.
+#[derive(Drop)]
+pub struct Writer<'a> {
+    pub out: &'a mut [u8],
+    pub filled: usize,
+}
+
+impl Sink for Writer<'_> {
+    ghost used = { λ w. w.filled };
+
+    ghost size = { λ w. length w.out.now };
+
+    ghost puts = { λ w text v. Put w.out.now w.filled text v.out.now v.filled × (v.out.ghost_name ≡ w.out.ghost_name) };
+
+    ghost nothing = { λ w. (put_nothing w.out.now w.filled, refl) };
+
+    ghost joined = { λ s t u xs ys p q. (put_joined p.0 q.0, q.1 ∙ p.1) };
+
+    ghost counted = { λ s t text p. (p.0.place, put_size p.0) };
+
+    fn byte(&mut self, b: u8) {
+        self.out[self.filled] = b;
+        self.filled += 1;
     }
-    i
+
+    fn bytes(&mut self, bytes: &[u8]) {
+        let end = self.filled + bytes.len();
+        self.out[self.filled..end].copy_from_slice(bytes);
+        self.filled = end;
+    }
+
+    // The three of hundreds, tens and ones are stored one after the other, each over the one before it where that leads: so no branch hangs on the number.
+    fn number(&mut self, v: u16) {
+        let at = self.filled;
+        let tens = at + usize::from(99 < v);
+        let ones = tens + usize::from(9 < v);
+        self.out[at] = (v / 100 % 10) as u8 + 48;
+        self.out[tens] = (v / 10 % 10) as u8 + 48;
+        self.out[ones] = (v % 10) as u8 + 48;
+        self.filled = ones + 1;
+    }
 }
 
-// Puts a number's digits. The three of hundreds, tens and ones are stored one after the other, each over the one before it where that
-// leads: so no branch hangs on the number.
-pub fn put_number(out: &mut [u8], at: usize, v: u16) -> usize
-    requires { at + length (decimal v) ≤ length out.old }
-    ensures { (result ≡ at + length (decimal v)) × (out.new ≡ sets out.old at (decimal v)) }
-{
-    let tens = at + bit(99 < v);
-    let ones = tens + bit(9 < v);
-    out[at] = (v / 100 % 10) as u8 + 48;
-    out[tens] = (v / 10 % 10) as u8 + 48;
-    out[ones] = (v % 10) as u8 + 48;
-    ones + 1
+// How many bytes a text has.
+#[derive(Drop)]
+pub struct Count {
+    pub bytes: usize,
+}
+
+impl Sink for Count {
+    ghost used = { λ c. c.bytes };
+
+    ghost size = { λ c. MAX };
+
+    ghost puts = { λ c text d. Counted c.bytes text d.bytes };
+
+    ghost nothing = { λ c. counted_nothing c.bytes };
+
+    ghost joined = { λ s t u xs ys p q. counted_joined p q };
+
+    ghost counted = { λ s t text p. (p.place, refl) };
+
+    fn byte(&mut self, _b: u8) {
+        self.bytes += 1;
+    }
+
+    fn bytes(&mut self, bytes: &[u8]) {
+        self.bytes += bytes.len();
+    }
+
+    fn number(&mut self, v: u16) {
+        self.bytes += 1 + usize::from(9 < v) + usize::from(99 < v);
+    }
 }
 
 // Puts a comma and a number.
-pub fn put_next(out: &mut [u8], at: usize, v: u16) -> usize
-    requires { at + length (44 ∷ decimal v) ≤ length out.old }
-    ensures { (result ≡ at + length (44 ∷ decimal v)) × (out.new ≡ sets out.old at (44 ∷ decimal v)) }
+pub fn put_next<S: Sink>(to: &mut S, v: u16)
+    requires { S.used to.old + length (44 ∷ decimal v) ≤ S.size to.old }
+    ensures { S.puts to.old (44 ∷ decimal v) to.new }
 {
-    out[at] = 44;
-    put_number(out, at + 1, v)
+    to.byte(b',');
+    to.number(v);
 }
 
-// Puts a line's end.
-pub fn put_line_end(out: &mut [u8], at: usize) -> usize
-    requires { at + length line_end ≤ length out.old }
-    ensures { (result ≡ at + length line_end) × (out.new ≡ sets out.old at line_end) }
+// Puts a line: a key, the values with a comma between, the line's end.
+pub fn put_line<S: Sink>(to: &mut S, key: &[u8], values: &[u16])
+    requires some { 0 < length values.now }
+    requires room { S.used to.old + length (line key.now values.now) ≤ S.size to.old }
+    ensures { S.puts to.old (line key.now values.now) to.new }
 {
-    out[at] = 10;
-    at + 1
-}
-
-// How many bytes a line has: a key, the first `count` values with a comma between, the line's end.
-pub fn line_length(key: &[u8], values: &[u16], count: usize) -> usize
-    requires count_nonzero { (0 < count) × (count ≤ length values.now) }
-    requires count_len_bound { length key.now + 4 * count < 2 ^ 64 }
-    ensures { result ≡ length (line key.now (take count values.now)) }
-{
-    let mut sum = key.len();
-    let mut i = 0;
-    while i < count {
-        sum += digits(values[i]) + 1;
-        i += 1;
+    to.bytes(key);
+    to.number(values[0]);
+    for &v in &values[1..] {
+        put_next(to, v);
     }
-    sum
-}
-
-// Puts a whole line: a key, the first `count` values with a comma between, the line's end.
-pub fn put_line(out: &mut [u8], at: usize, key: &[u8], values: &[u16], count: usize) -> usize
-    requires count_nonzero { (0 < count) × (count ≤ length values.now) }
-    requires values_in_bounds { at + length (line key.now (take count values.now)) ≤ length out.old }
-    ensures { (result ≡ at + length (line key.now (take count values.now))) × (out.new ≡ sets out.old at (line key.now (take count values.now))) }
-{
-    let first = put_bytes(out, at, key);
-    let mut i = put_number(out, first, values[0]);
-    let mut k = 1;
-    while k < count {
-        let e = put_next(out, i, values[k]);
-        i = e;
-        k += 1;
-    }
-    put_line_end(out, i)
+    to.byte(b'\n');
 }

@@ -6,9 +6,10 @@ use mathlib.Core.Bool.{Bool, true, false, cond}
 use mathlib.Core.List.{List}
 use native.Mathlib.Decide.{ℕ_discrete}
 use native.Mathlib.Omega.{arith}
+use Rattle.std.proofs.Common.{length-take}
 use lib.Dec.{eqb}
-use lib.ListN.{get_or, set, length, length-set}
-use lib.Seq.{get_or-set_same, get_or-set_other}
+use lib.ListN.{get_or, set, length, length-set, take}
+use lib.Seq.{get_or-set_same, get_or-set_other, get_or-take}
 use borrow.Author.Tests.{eq-eqb, ne_eqb}
 use Rattle.clauses.specs.Darts.{dart_of}
 use Rattle.clauses.proofs.Touching.{touches_tail, touches_head, head_touches}
@@ -117,14 +118,21 @@ module _ {s : Sheet} (S : Sound s) where
   next_below : (d : ℕ) → d < darts s → next s d < darts s
   next_below d h = (rotation_of S).perm.below d h
 
-  module _ {firsts : List ℕ} (F : Firsts s firsts) (v : ℕ) (h : v < s.vertices) (first : ℕ) (e : first ≡ get_or firsts v 0) where
-    -- what the listing of a vertex's ring asks
+  -- entry v of those that the vertices have
+  module _ {firsts : List ℕ} (F : Firsts s firsts) (v : ℕ) (h : v < length (take s.vertices firsts)) (first : ℕ) (e : first ≡ get_or (take s.vertices firsts) v 0) where
+    pub ring_inside : v < s.vertices
+    ring_inside = omega (arith, length-take s.vertices firsts)
+
+    first_is : first ≡ lowest_dart s v
+    first_is = e ∙ get_or-take s.vertices firsts v 0 ring_inside ∙ F.each v ring_inside
+
+    -- what the writing of a vertex's ring asks
     pub ring_asks : (darts s ≤ 512) × (first < darts s) × ((d : ℕ) → d < darts s → next s d < darts s)
-    ring_asks = (omega (arith, S.limits.edges_most), omega (arith, F.each v h, lowest_below_law v h), next_below)
+    ring_asks = (omega (arith, S.limits.edges_most), omega (arith, first_is, lowest_below_law v ring_inside), next_below)
 
     pub ring_listed : (edges : List ℕ) → edges ≡ ring_from (darts s) s first first → edges ≡ rotation s v
     unfolding rotation
-    ring_listed edges q = q ∙ ap (λ d. ring_from (darts s) s d d) (e ∙ F.each v h)
+    ring_listed edges q = q ∙ ap (λ d. ring_from (darts s) s d d) first_is
 
 -- an end of an edge of a sound sheet has a place among 128
 module _ {s : Sheet} (S : Sound s) {k v : ℕ} (h : k < s.edges) where

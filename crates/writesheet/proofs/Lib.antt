@@ -1,5 +1,4 @@
 pub mod Firsts
-pub mod Circuits
 pub mod Measure
 pub mod Entries
 pub mod Putting

@@ -1,17 +1,16 @@
--- Lines one after the other: how long they are, and how they are put. Assumes nothing.
+-- Lines one after the other, and how long they are. Assumes nothing.
 use Prim.Native.Nat.{ℕ, zero, suc, ◌+◌, ◌*◌, ◌≤◌, ◌<◌}
-use mathlib.Core.Path.{◌≡◌, refl, sym, ap, ◌∙◌}
+use mathlib.Core.Path.{◌≡◌, refl, ap, ◌∙◌}
 use mathlib.Core.Logic.{by_cases}
 use mathlib.Core.List.{List, [], ◌∷◌, ◌++◌}
 use native.Mathlib.Decide.{dec_lt}
-use native.Mathlib.Nat.{add-zero, suc-mul}
+use native.Mathlib.Nat.{suc-mul}
 use native.Mathlib.Numerals.{add-one}
 use native.Mathlib.Omega.{arith}
 use lib.ListN.{length, length-append}
-use lib.Seq.{sets, length-sets}
 use Rattle.counting.specs.Below.{join_below}
 use Rattle.text.specs.Written.{line}
-use Rattle.buffer.proofs.Writing.{sets_append, line_short}
+use Rattle.buffer.proofs.Writing.{line_short}
 use Rattle.sheet.specs.declared.Sheet.{Sheet}
 use Rattle.sheet.specs.Darts.{tail, head}
 use Rattle.text.specs.Keys.{bars_key, wires_key, wire_key}
@@ -41,36 +40,6 @@ module _ (f : ℕ → List ℕ) where
   unfolding join_below
   join_short b zero h = omega arith
   join_short b (suc n) h = omega (arith, join_short b n (λ k l. h k (omega arith)), h n (omega arith), length-append (join_below f n) (f n), suc-mul n b)
-
--- The buffer `out` and the place `at` when `text` is put, from `start` on, into the buffer `out₀`.
-pub record Put (out₀ : List ℕ) (start : ℕ) (text out : List ℕ) (at : ℕ) : Type 0 where
-  pub place : at ≡ start + length text
-  pub makes : out ≡ sets out₀ start text
-
-pub put_none : (out₀ : List ℕ) (start : ℕ) → Put out₀ start [] out₀ start
-put_none out₀ start = record { place = sym (add-zero start); makes = refl }
-
-pub put_size : {out₀ out text : List ℕ} {start at : ℕ} → Put out₀ start text out at → length out ≡ length out₀
-put_size {out₀} {text} {start} p = ap length p.makes ∙ length-sets out₀ start text
-
-pub put_more : {out₀ out out₁ : List ℕ} {start at at₁ : ℕ} (xs ys : List ℕ) → Put out₀ start xs out at → at₁ ≡ at + length ys → out₁ ≡ sets out at ys
-    → Put out₀ start (xs ++ ys) out₁ at₁
-put_more {out₀} {start} xs ys p ea eo =
-    record {
-      place = omega (arith, p.place, length-append xs ys);
-      makes = eo ∙ rw (p.place, p.makes) (sym (sets_append xs ys out₀ start));
-    }
-
--- line k is the next
-module _ (f : ℕ → List ℕ) (k : ℕ) {out₀ out : List ℕ} {start at : ℕ} (p : Put out₀ start (join_below f k) out at) where
-  pub line_room : (n : ℕ) → k < n → start + length (join_below f n) ≤ length out₀ → at + length (f k) ≤ length out
-  line_room n h r = omega (arith, p.place, put_size p, join_room f n k h)
-
-  pub line_put : {out₁ : List ℕ} {at₁ : ℕ} → at₁ ≡ at + length (f k) → out₁ ≡ sets out at (f k) → Put out₀ start (join_below f (k + 1)) out₁ at₁
-  line_put ea eo = rw (join_more f k) (put_more (join_below f k) (f k) p ea eo)
-
-  pub lines_put : (n : ℕ) → k ≤ n → n ≤ k → (at ≡ start + length (join_below f n)) × (out ≡ sets out₀ start (join_below f n))
-  lines_put n h l = let z : n ≡ k = omega arith in rw z (p.place, p.makes)
 
 -- the lines of a sheet
 module _ (s : Sheet) where

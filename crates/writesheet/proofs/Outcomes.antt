@@ -8,6 +8,7 @@ use native.Mathlib.Nat.{zero-add}
 use lib.ListN.{length}
 use lib.Seq.{sets, sets-eq}
 use borrow.Author.Tests.{lt-ltb, le-ltb}
+use Rattle.buffer.specs.Sinks.{Put}
 use Rattle.sheet.specs.declared.Sheet.{Sheet}
 use Rattle.answers.specs.declared.Refusal.TheVariants.{NotSound, BufferTooShort}
 use Rattle.answers.specs.Refusals.{first, answering}
@@ -34,3 +35,8 @@ module _ (s : Sheet) (text buffer : List ℕ) where
   text_put e h count n out q =
       rw (e, le-ltb (length buffer) (length text) h)
       (ap Ok n, q ∙ sets-eq text buffer 0 (rw zero-add h) ∙ rw zero-add refl)
+
+  -- the same, where a writer has put it at the front of the buffer, and left it so
+  pub front_put : sound s ≡ true → length text ≤ length buffer → {count : ℕ} {out : List ℕ} → Put buffer 0 text out count → (after : List ℕ) → after ≡ out
+      → Outcome s text buffer (Ok count) after
+  front_put e h {count} p after q = text_put e h count (p.place ∙ zero-add (length text)) after (q ∙ p.makes)

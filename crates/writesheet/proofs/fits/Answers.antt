@@ -1,7 +1,5 @@
-use mathlib.Core.Path.{refl, sym}
-use native.Mathlib.Omega.{arith}
+use Rattle.std.proofs.Common.{sym, length, arith}
 use borrow.Author.Tests.{le-leb}
-use lib.ListN.{length}
 use Rattle.writesheet.specs.Write.{sheet_text}
 use Rattle.writesheet.proofs.Entries.{sheet_short}
 use Rattle.writesheet.proofs.fits.Goals as goal
@@ -11,5 +9,5 @@ returns-then-room-ge-LONGEST c =
     let a = c.args in
     sym (le-leb (length (sheet_text a.s)) a.room (omega (arith, sheet_short c.requires.0, c.if-room-ge-LONGEST.true)))
 
-pub returns : goal.returns
-returns c = rw c.text_length.ensures refl
+pub put_sheet-requires-clause-room : goal.put_sheet-requires-clause-room
+put_sheet-requires-clause-room c = omega (arith, sheet_short c.requires.0)

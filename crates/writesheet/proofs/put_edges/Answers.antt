@@ -1,23 +1,15 @@
-use Rattle.std.proofs.Common.{rules}
+use Rattle.std.proofs.Common.{arith}
 use Rattle.counting.specs.Below.{join_below}
 use Rattle.writesheet.specs.Inner.{edge_text}
-use Rattle.writesheet.proofs.Measure.{put_none, put_size, line_room, line_put, lines_put}
+use Rattle.writesheet.proofs.Measure.{join_more, join_room}
 use Rattle.writesheet.proofs.put_edges.Goals as goal
 
 pub loop-k-init : goal.loop-k-init
 unfolding join_below
-loop-k-init c = (search rules, put_none _ _)
+loop-k-init g c = g.met.S.Sink.nothing _
 
-pub put_line-next-requires : goal.put_line-next-requires
-put_line-next-requires c =
-    record { count_nonzero = search rules; values_in_bounds = line_room (edge_text c.args.s) _ c.loop-k.invariant.1 _ c.loop-k-test.true c.requires.1 }
+pub put_line-requires-clause-room : goal.put_line-requires-clause-room
+put_line-requires-clause-room g c = omega (arith, c.requires.room, g.met.S.Sink.counted _ _ _ c.loop-k.invariant, join_room (edge_text c.args.s) _ c.loop-k.k c.loop-k-test.true)
 
 pub loop-k-preserved : goal.loop-k-preserved
-loop-k-preserved c =
-    (search rules, line_put (edge_text c.args.s) _ c.loop-k.invariant.1 c.put_line-next.ensures.0 c.put_line-next.ensures.1)
-
-pub shape_of-out : goal.shape_of-out
-shape_of-out c = put_size c.loop-k.invariant.1
-
-pub returns : goal.returns
-returns c = lines_put (edge_text c.args.s) _ c.loop-k.invariant.1 _ c.loop-k.invariant.0 c.loop-k-test.false
+loop-k-preserved g c = rw (join_more (edge_text c.args.s) c.loop-k.k) (g.met.S.Sink.joined _ _ _ _ _ c.loop-k.invariant c.put_line.ensures)

@@ -8,7 +8,7 @@ use Rattle.sheet.specs.Check.{sound}
 use Rattle.sheet.specs.Darts.{Sized}
 use Rattle.sheet.specs.declared.Sheet.{Sheet}
 use Rattle.soundness.proofs.Law.{sound_law}
-use Rattle.writesheet.proofs.Outcomes.{not_sound, too_short, text_put}
+use Rattle.writesheet.proofs.Outcomes.{not_sound, too_short, front_put}
 use Rattle.writesheet.proofs.write_sheet.Goals as goal
 
 found_sound : {s : Sheet} {b : Bool} → Sized s → b ≡ sound s → b ≡ true → Sound s
@@ -29,10 +29,10 @@ pub returns-then-not-fits : goal.returns-then-not-fits
 returns-then-not-fits c =
     too_short _ _ _ (sym c.is_sound.ensures ∙ c.if-not-is_sound.false) (leb-false _ _ (sym c.fits.ensures ∙ c.if-not-fits.true))
 
-pub put_sheet-requires : goal.put_sheet-requires
-put_sheet-requires c =
-    (found_sound (search rules) c.is_sound.ensures c.if-not-is_sound.false, c.first_darts-firsts.ensures, leb-true _ _ (sym c.fits.ensures ∙ c.if-not-fits.false))
+pub put_sheet-requires-clause-sound : goal.put_sheet-requires-clause-sound
+put_sheet-requires-clause-sound c =
+    (found_sound (search rules) c.is_sound.ensures c.if-not-is_sound.false, c.first_darts-firsts.ensures)
 
 pub returns : goal.returns
 returns c =
-    text_put _ _ _ (sym c.is_sound.ensures ∙ c.if-not-is_sound.false) (leb-true _ _ (sym c.fits.ensures ∙ c.if-not-fits.false)) _ c.put_sheet.ensures.0 _ c.put_sheet.ensures.1
+    front_put _ _ _ (sym c.is_sound.ensures ∙ c.if-not-is_sound.false) (leb-true _ _ (sym c.fits.ensures ∙ c.if-not-fits.false)) c.put_sheet.ensures.0 _ (search rules)
