@@ -8,9 +8,9 @@ use native.Mathlib.Decide.{dec_lt}
 use borrow.Author.Tests.{lt-ltb, le-ltb}
 use lib.Dec.{ltb}
 use lib.ListN.{set}
-use lib.Seq.{sets, set-set}
+use lib.Seq.{sets, set-set, length-sets}
 use Rattle.text.specs.Written.{decimal, separated, line_end, line}
-use Rattle.buffer.specs.Sinks.{Put}
+use Rattle.buffer.specs.Sinks.{Put, sets_append}
 
 -- a number's digits, by how many there are
 module _ (v : ℕ) where
@@ -117,3 +117,28 @@ pub line_short : (key vs : List ℕ) → length (line key vs) ≤ length key + 1
 unfolding line separated
 line_short key [] = let e : length (line key []) ≡ length key + 1 = length-append (key ++ []) line_end ∙ rw (append-nil key) refl in omega arith
 line_short key (v ∷ vs) = omega (arith, line_size key (v ∷ vs) (omega arith), decimal_short v, others_short vs)
+
+-- The buffer `out` and the place `at` when `rest` is left to write of `all`, which began at `start` of the buffer `out₀`.
+pub record Left (out₀ : List ℕ) (start : ℕ) (all out : List ℕ) (at : ℕ) (rest : List ℕ) : Type 0 where
+  pub size : length out ≡ length out₀
+  pub place : at + length rest ≡ start + length all
+  pub makes : sets out at rest ≡ sets out₀ start all
+
+pub left_all : (out₀ : List ℕ) (start : ℕ) (all : List ℕ) → Left out₀ start all out₀ start all
+left_all out₀ start all = record { size = refl; place = refl; makes = refl }
+
+module _ {out₀ : List ℕ} {start : ℕ} {all out : List ℕ} {at : ℕ} where
+  pub left_fits : {rest : List ℕ} → Left out₀ start all out at rest → start + length all ≤ length out₀ → at + length rest ≤ length out
+  left_fits l h = omega (arith, l.size, l.place)
+
+  pub left_room : (xs rest : List ℕ) → Left out₀ start all out at (xs ++ rest) → start + length all ≤ length out₀ → at + length xs ≤ length out
+  left_room xs rest l h = omega (arith, l.size, l.place, length-append xs rest)
+
+  -- the next bytes are written
+  pub left_turn : (xs rest : List ℕ) {out₁ : List ℕ} {at₁ : ℕ} → Left out₀ start all out at (xs ++ rest) → at₁ ≡ at + length xs → out₁ ≡ sets out at xs → Left out₀ start all out₁ at₁ rest
+  left_turn xs rest l ea eo =
+      record {
+        size = ap length eo ∙ length-sets out at xs ∙ l.size;
+        place = omega (arith, l.place, length-append xs rest);
+        makes = rw (ea, eo) (sym (sets_append xs rest out at) ∙ l.makes);
+      }

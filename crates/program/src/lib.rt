@@ -8,6 +8,7 @@ ghost use Rattle.drawing.specs.Write.{drawing_text_of};
 ghost use Rattle.program.specs.Program.{refused_line, edits_output, plate_output, longest_output, write_output, buffer_after_output};
 
 use answers::Refusal;
+use buffer::Writer;
 use sheet::Sheet;
 
 // Puts a line `refused=` and number, and returns the place after it.
@@ -15,7 +16,9 @@ fn put_refused(out: &mut [u8], at: usize, refusal: Refusal) -> usize
     requires { at + length (refused_line refusal) ≤ length out.old }
     ensures { (result ≡ at + length (refused_line refusal)) × (out.new ≡ sets out.old at (refused_line refusal)) }
 {
-    buffer::put_line(out, at, b"refused=", &[refusal.number()], 1)
+    let mut text = Writer { out, filled: at };
+    buffer::put_line(&mut text, b"refused=", &[refusal.number()]);
+    text.filled
 }
 
 // Puts the drawing of a sound sheet, and returns the place after it.

@@ -5,7 +5,7 @@ use mathlib.Core.Path.{◌≡◌, refl, sym, ap, ◌∙◌}
 use mathlib.Core.Bool.{true, false}
 use mathlib.Core.List.{List}
 use lib.ListN.{length}
-use lib.Seq.{sets}
+use Rattle.buffer.specs.Sinks.{Put}
 use Rattle.counting.proofs.Iterate.{by_bool}
 use Rattle.answers.specs.declared.Refusal.TheVariants.{NotSound, BufferTooShort}
 use Rattle.answers.specs.declared.Refusal.{Refusal}
@@ -14,7 +14,7 @@ use Rattle.sheet.specs.Check.{sound}
 use Rattle.soundness.proofs.Judge.{passed_says}
 use Rattle.sheet.specs.Sound.{Limits}
 use Rattle.soundness.proofs.Clauses.{limits_law}
-use Rattle.writesheet.proofs.Outcomes.{not_sound, too_short, text_put}
+use Rattle.writesheet.proofs.Outcomes.{not_sound, too_short, front_put}
 use Rattle.drawing.specs.declared.Drawing.{Drawing}
 use Rattle.drawing.specs.Draw.{drawing_of, draw_call}
 use Rattle.drawing.proofs.Answered.{sound_drawn, unsound_drawn}
@@ -43,9 +43,9 @@ module _ (s : Sheet) (e : sound s ≡ true) where
     pub short_buffer : length buffer < length (text_for s d) → Outcome s buffer (Err BufferTooShort) buffer
     short_buffer h = too_short s _ buffer e (rw q at h)
 
-    pub drawing_put : length (text_for s d) ≤ length buffer → (count : ℕ) → count ≡ length (text_for s d) → (out : List ℕ) → out ≡ sets buffer 0 (text_for s d)
-        → Outcome s buffer (Ok count) out
-    drawing_put h count n out o = text_put s _ buffer e (rw q at h) count (rw q at n) out (rw q at o)
+    pub drawing_put : length (text_for s d) ≤ length buffer → {count : ℕ} {out : List ℕ} → Put buffer 0 (text_for s d) out count → (after : List ℕ) → after ≡ out
+        → Outcome s buffer (Ok count) after
+    drawing_put h p after r = front_put s _ buffer e (rw q at h) (rw q at p) after r
 
 -- by what draw answered
 module _ (s : Sheet) (r : Result Drawing Refusal) (p : r ≡ draw_call s) where

@@ -1,18 +1,8 @@
--- The lines of a drawing's text, by their numbers.
-use Rattle.std.specs.Prelude.{ℕ, List, [], ◌∷◌, get_or}
-use Rattle.drawing.specs.declared.VertexSegment.{VertexSegment}
-use Rattle.drawing.specs.declared.EdgeSegment.{EdgeSegment}
+-- The lines of a drawing's text.
+use Rattle.std.specs.Prelude.{ℕ, List, get_or}
 use Rattle.drawing.specs.declared.Drawing.{Drawing}
 use Rattle.drawing.specs.Draw.{no_vertex_segment, no_edge_segment}
 use Rattle.drawing.specs.Write.{vertex_line, edge_line}
-
--- the numbers of a line `bar=`: row, first column, last column
-abbrev pub vertex_values : VertexSegment → List ℕ
-vertex_values v = v.row ∷ v.first ∷ v.last ∷ []
-
--- the numbers of a line `wire=`: column, tail row, head row
-abbrev pub edge_values : EdgeSegment → List ℕ
-edge_values e = e.column ∷ e.low ∷ e.high ∷ []
 
 -- the line `bar=` of vertex v
 abbrev pub vertex_text : Drawing → ℕ → List ℕ

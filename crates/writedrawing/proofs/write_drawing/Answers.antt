@@ -18,13 +18,11 @@ returns-then-not-fits c =
     let a = c.in_ok-drawing.was in
     short_buffer _ (is_so _ _ p _ a) _ (is_drawing _ _ p _ a) _ (leb-false _ _ (sym c.fits.ensures ∙ c.if-not-fits.true))
 
-pub put_drawing-requires : goal.put_drawing-requires
-put_drawing-requires c =
-    let l = limits _ _ c.draw.ensures _ c.in_ok-drawing.was in
-    (l.vertices_most, l.edges_most, leb-true _ _ (sym c.fits.ensures ∙ c.if-not-fits.false))
+pub put_drawing-requires-clause-few : goal.put_drawing-requires-clause-few
+put_drawing-requires-clause-few c = let l = limits _ _ c.draw.ensures _ c.in_ok-drawing.was in (l.vertices_most, l.edges_most)
 
 pub returns : goal.returns
 returns c =
     let p = c.draw.ensures in
     let a = c.in_ok-drawing.was in
-    drawing_put _ (is_so _ _ p _ a) _ (is_drawing _ _ p _ a) _ (leb-true _ _ (sym c.fits.ensures ∙ c.if-not-fits.false)) _ c.put_drawing.ensures.0 _ c.put_drawing.ensures.1
+    drawing_put _ (is_so _ _ p _ a) _ (is_drawing _ _ p _ a) _ (leb-true _ _ (sym c.fits.ensures ∙ c.if-not-fits.false)) c.put_drawing.ensures.0 _ (search rules)
