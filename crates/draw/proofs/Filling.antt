@@ -7,6 +7,8 @@ use native.Mathlib.Numerals.{add-one}
 use native.Mathlib.Omega.{arith}
 use lib.ListN.{get_or, set, length, length-set, replicate}
 use lib.Seq.{set_at, append_snoc, set-append_left, ext_get_or}
+use Rattle.std.proofs.lemmas.List.{length-replicate, get_or-replicate}
+use Rattle.std.specs.Array.{AllOfLen}
 use Rattle.counting.specs.Below.{tabulate}
 use Rattle.counting.proofs.Below.{length_tabulate, get_d_tabulate, get_d_tabulated}
 use Rattle.counting.proofs.Stores.{Stored, stored}
@@ -59,3 +61,9 @@ module _ {A : Type 0} (f : ℕ → A) (size : ℕ) (z : A) where
           go : Stored (tabulate f n) i x j z → j < n → get_or (set (tabulate f n) i x) j z ≡ g j
           go (here e s) m = s ∙ q ∙ ap g (sym e)
           go (apart e s) m = s ∙ get_d_tabulate f z n j m ∙ same j m e
+
+-- an array of which each entry is z
+pub all_same : {A : Type 0} {P : A → Type 0} (z : A) → ((x : A) → P x → x ≡ z) → (xs : List A) (n : ℕ) → AllOfLen P xs n → xs ≡ replicate n z
+all_same z same xs n a =
+    ext_get_or z xs (replicate n z) (a.long ∙ sym (length-replicate n z))
+    (λ i h. same (get_or xs i z) (a.at i z (omega (arith, a.long))) ∙ sym (get_or-replicate n i z z (omega (arith, a.long))))

@@ -3,7 +3,9 @@ use Rattle.std.specs.Prelude.{Result, Ok, Err}
 use Prim.Native.Nat.{ℕ, ◌<◌, ◌≤◌}
 use mathlib.Core.Path.{◌≡◌, refl, sym, ap, ◌∙◌}
 use mathlib.Core.Bool.{Bool, true, false}
+use mathlib.Core.List.{List}
 use native.Mathlib.Omega.{arith}
+use lib.ListN.{replicate}
 use Rattle.sheet.specs.declared.Sheet.{Sheet}
 use Rattle.sheet.specs.declared.Findings.{Findings}
 use Rattle.answers.specs.declared.Refusal.TheVariants.{NotSound}
@@ -15,8 +17,20 @@ use Rattle.sheet.specs.Check.{sound, row_levels, face_table, face_count}
 use Rattle.sheet.specs.Inner.{findings_in, findings_of}
 use Rattle.sheet.proofs.Found.{found_is}
 use Rattle.soundness.proofs.Law.{sound_law}
+use Rattle.drawing.specs.declared.VertexSegment.{VertexSegment}
+use Rattle.drawing.specs.declared.EdgeSegment.{EdgeSegment}
 use Rattle.drawing.specs.declared.Drawing.{Drawing}
-use Rattle.drawing.specs.Draw.{drawing_of, draw_answer, draw_call}
+use Rattle.drawing.specs.Draw.{no_vertex_segment, no_edge_segment, drawing_of, zero_drawing, draw_answer, draw_call}
+
+
+-- a drawing, part by part; and that of zeros
+parted : (d : Drawing) (r c : ℕ) (vs : List VertexSegment) (es : List EdgeSegment) → d.rows ≡ r → d.columns ≡ c → d.vertices ≡ vs → d.edges ≡ es
+    → d ≡ record { rows = r; columns = c; vertices = vs; edges = es }
+parted d r c vs es p q v e = rw (← p, ← q, ← v, ← e) refl
+
+pub zeros : (d : Drawing) → d.rows ≡ 0 → d.columns ≡ 0 → d.vertices ≡ replicate 128 no_vertex_segment → d.edges ≡ replicate 256 no_edge_segment → d ≡ zero_drawing
+unfolding zero_drawing
+zeros d r c v e = parted d 0 0 (replicate 128 no_vertex_segment) (replicate 256 no_edge_segment) r c v e
 
 module _ (s : Sheet) where
   pub not_sound : sound s ≡ false → Err NotSound ≡ draw_call s

@@ -47,10 +47,10 @@ module _ {s : Sheet} (S : Sound s) where
     abbrev leaves : ℕ → Bool
     leaves j = eqb (tail s j) v
 
-    first_is : best_below min 256 leaves (λ j. get_or columns j 0) s.edges ≡ first_column s v
+    first_is : best_below min 65535 leaves (λ j. get_or columns j 0) s.edges ≡ first_column s v
     first_is =
         let (k, l, t, e) = first_found S v h n in
-        found_best min_better 256 leaves (λ j. get_or columns j 0) s.edges (first_column s v) k l (eq-eqb (tail s k) v t) (column_at k l ∙ e) (omega (arith, e, column_small S k l))
+        found_best min_better 65535 leaves (λ j. get_or columns j 0) s.edges (first_column s v) k l (eq-eqb (tail s k) v t) (column_at k l ∙ e) (omega (arith, e, column_small S k l))
         (λ j i p. omega (arith, column_at j i, first_bound S v h j i (eqb-true (tail s j) v p)))
 
     last_is : best_below max 0 leaves (λ j. get_or ends j 0) s.edges ≡ last_column s v

@@ -27,13 +27,13 @@ module _ (tails rows columns ends : List ℕ) where
     unfolding vertex_from
     reached_more e =
         let t = eq-eqb (get_or tails k 0) v e in
-        rw (more_passes min 256 leaves (λ j. get_or columns j 0) k t, more_passes max 0 leaves (λ j. get_or ends j 0) k t) refl
+        rw (more_passes min 65535 leaves (λ j. get_or columns j 0) k t, more_passes max 0 leaves (λ j. get_or ends j 0) k t) refl
 
     reached_kept : get_or tails k 0 ≢ v → vertex_from tails rows columns ends k v ≡ vertex_from tails rows columns ends (k + 1) v
     unfolding vertex_from
     reached_kept n =
         let t = ne_eqb (get_or tails k 0) v n in
-        rw (more_fails min 256 leaves (λ j. get_or columns j 0) k t, more_fails max 0 leaves (λ j. get_or ends j 0) k t) refl
+        rw (more_fails min 65535 leaves (λ j. get_or columns j 0) k t, more_fails max 0 leaves (λ j. get_or ends j 0) k t) refl
 
   -- edge k widens the segment at its tail to x
   pub widened_more : (n k : ℕ) → get_or tails k 0 < n → (l : List VertexSegment) → l ≡ table (vertex_from tails rows columns ends k) n 128 no_vertex_segment

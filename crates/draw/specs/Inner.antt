@@ -37,15 +37,15 @@ unfoldable pub best_below : (ℕ → ℕ → ℕ) → ℕ → (ℕ → Bool) →
 best_below better z p f zero = z
 best_below better z p f (suc n) = cond (p n) (better (best_below better z p f n) (f n)) (best_below better z p f n)
 
--- a vertex's segment before its first edge is seen: 256 stands for the first column of none
+-- a vertex's segment before its first edge is seen: its first column is past every other
 unfoldable pub unreached_from : List ℕ → ℕ → VertexSegment
-unreached_from rows v = record { row = get_or rows v 0; first = 256; last = 0 }
+unreached_from rows v = record { row = get_or rows v 0; first = 65535; last = 0 }
 
 -- a vertex's segment from those of the first k edges that leave it
 unfoldable pub vertex_from : List ℕ → List ℕ → List ℕ → List ℕ → ℕ → ℕ → VertexSegment
 vertex_from tails rows columns ends k v = record {
   row = get_or rows v 0;
-  first = best_below min 256 (λ j. eqb (get_or tails j 0) v) (λ j. get_or columns j 0) k;
+  first = best_below min 65535 (λ j. eqb (get_or tails j 0) v) (λ j. get_or columns j 0) k;
   last = best_below max 0 (λ j. eqb (get_or tails j 0) v) (λ j. get_or ends j 0) k;
 }
 

@@ -1,37 +1,47 @@
 // Draw: the drawing of a sound sheet, in time linear in the sheet.
 #![tactic(auto)]
 
-ghost use Rattle.std.specs.Prelude.{◌≡◌, ◌≤◌, ◌<◌, min, max, get_or};
+ghost use Rattle.std.specs.Prelude.{◌≡◌, ℕ, ◌≤◌, ◌<◌, get_or};
 ghost use Rattle.clauses.specs.Inner.{Ends};
 ghost use Rattle.sheet.specs.Sound.{Sound};
-ghost use Rattle.drawing.specs.Draw.{no_vertex_segment, no_edge_segment, zero_drawing, draw_call, returned};
+ghost use Rattle.drawing.specs.Draw.{no_vertex_segment, no_edge_segment, draw_call, returned};
 ghost use Rattle.draw.specs.Inner.{table, leading_faces, column_beside, AtLeast, edge_from, unreached_from, segment_from, widened_by, drawing_from};
 
 use answers::Refusal;
-use counting::wide;
 use drawing::{Drawing, EdgeSegment, VertexSegment};
 use sheet::Sheet;
 
-// Stands for the first column of a vertex of which no edge was seen.
-const NONE: u16 = 256;
+// An array whose first m entries a function gives; the others are `zero`.
+fn table<T: Copy, const N: usize, F: Fn(usize) -> T>(m: usize, zero: T, entry: F) -> [T; N]
+    requires few { m ≤ N }
+    requires callable { (k : ℕ) → k < m → F.pre entry k }
+    ensures { (of : ℕ → T) → ((k : ℕ) (x : T) → k < m → F.post entry k x → x ≡ of k) → result ≡ table of m N zero }
+{
+    let mut entries = [zero; N];
+    for k in 0..m {
+        entries[k] = entry(k);
+    }
+    entries
+}
 
 // The faces between which each of m edges leads: from which, where `side` is 0, or to which, where it is 1. An edge leads from its left face to its right
 // face, edge 0 from its right face to its left face.
+#[tactic(auto, unfolding(crate::specs::Inner::leading_face, crate::specs::Inner::leading_faces))]
 fn leading_faces(m: usize, side: usize, faces: &[u16; 512]) -> [u16; 256]
     requires { (0 < m) × (m ≤ 256) × (side < 2) }
     ensures { result ≡ leading_faces m side faces.now }
 {
-    let mut beside = [0u16; 256];
-    beside[0] = faces[1 - side];
-    let mut k = 1;
-    while k < m {
-        beside[k] = faces[2 * k + side];
-        k += 1;
-    }
-    beside
+    table(m, 0, |k| {
+        if k == 0 {
+            faces[1 - side]
+        } else {
+            faces[2 * k + side]
+        }
+    })
 }
 
 // The column of the face beside each of m edges, less `less`; of edge 0 the column `last`.
+#[tactic(auto, unfolding(crate::specs::Inner::column_beside))]
 fn columns_beside(
     m: usize,
     level: &[u16; 256],
@@ -42,15 +52,13 @@ fn columns_beside(
     requires { (0 < m) × Ends 256 m beside.now × AtLeast less m level.now beside.now }
     ensures { result ≡ table (column_beside level.now beside.now last less) m 256 0 }
 {
-    let mut columns = [0u16; 256];
-    columns[0] = last;
-    let mut k = 1;
-    while k < m {
-        let face = wide(beside[k]);
-        columns[k] = level[face] - less;
-        k += 1;
-    }
-    columns
+    table(m, 0, |k| {
+        if k == 0 {
+            last
+        } else {
+            level[usize::from(beside[k])] - less
+        }
+    })
 }
 
 // The segment of each of m edges.
@@ -64,37 +72,15 @@ fn edge_segments(
     requires { Ends 256 m tails.now × Ends 256 m heads.now }
     ensures { result ≡ table (edge_from tails.now heads.now rows.now columns.now) m 256 no_edge_segment }
 {
-    let mut edges = [EdgeSegment {
-        column: 0,
-        low: 0,
-        high: 0,
-    }; 256];
-    let mut k = 0;
-    while k < m {
-        let tail = wide(tails[k]);
-        let head = wide(heads[k]);
-        edges[k] = EdgeSegment {
+    table(
+        m,
+        EdgeSegment::default(),
+        |k| EdgeSegment {
             column: columns[k],
-            low: rows[tail],
-            high: rows[head],
-        };
-        k += 1;
-    }
-    edges
-}
-
-// The lesser of two columns.
-fn lesser(a: u16, b: u16) -> u16
-    ensures { result ≡ min a b }
-{
-    if b < a { b } else { a }
-}
-
-// The greater of two columns.
-fn greater(a: u16, b: u16) -> u16
-    ensures { result ≡ max a b }
-{
-    if a < b { b } else { a }
+            low: rows[usize::from(tails[k])],
+            high: rows[usize::from(heads[k])],
+        },
+    )
 }
 
 // A vertex's segment, widened on the left to an edge's column and on the right as far as the edge lets it go.
@@ -103,31 +89,25 @@ fn widened(at: VertexSegment, column: u16, end: u16) -> VertexSegment
 {
     VertexSegment {
         row: at.row,
-        first: lesser(at.first, column),
-        last: greater(at.last, end),
+        first: at.first.min(column),
+        last: at.last.max(end),
     }
 }
 
-// The segments of n vertices of which no edge was seen.
+// The segments of n vertices of which no edge was seen: the first edge narrows the first column, and widens the last.
 fn unreached(n: usize, rows: &[u16; 256]) -> [VertexSegment; 128]
     requires { n ≤ 128 }
     ensures { result ≡ table (unreached_from rows.now) n 128 no_vertex_segment }
 {
-    let mut vertices = [VertexSegment {
-        row: 0,
-        first: 0,
-        last: 0,
-    }; 128];
-    let mut v = 0;
-    while v < n {
-        vertices[v] = VertexSegment {
+    table(
+        n,
+        VertexSegment::default(),
+        |v| VertexSegment {
             row: rows[v],
-            first: NONE,
+            first: u16::MAX,
             last: 0,
-        };
-        v += 1;
-    }
-    vertices
+        },
+    )
 }
 
 // The segment of each of n vertices, widened by each of m edges that leaves it: those that enter it stand between these. None leaves vertex 1, which goes
@@ -144,18 +124,13 @@ fn vertex_segments(
     ensures { result ≡ table (segment_from m tails.now rows.now columns.now ends.now) n 128 no_vertex_segment }
 {
     let mut vertices = unreached(n, rows);
-    let mut k = 0;
-    while k < m {
-        let tail = wide(tails[k]);
-        let at = vertices[tail];
-        vertices[tail] = widened(at, columns[k], ends[k]);
-        k += 1;
+    for k in 0..m {
+        let tail = usize::from(tails[k]);
+        vertices[tail] = widened(vertices[tail], columns[k], ends[k]);
     }
-    let source = vertices[0];
     vertices[1] = VertexSegment {
         row: rows[1],
-        first: source.first,
-        last: source.last,
+        ..vertices[0]
     };
     vertices
 }
@@ -177,26 +152,6 @@ fn compose(s: Sheet, rows: &[u16; 256], columns: &[u16; 256], ends: &[u16; 256])
     }
 }
 
-// The record of zeros.
-fn zeros() -> Drawing
-    ensures { result ≡ zero_drawing }
-{
-    Drawing {
-        rows: 0,
-        columns: 0,
-        vertices: [VertexSegment {
-            row: 0,
-            first: 0,
-            last: 0,
-        }; 128],
-        edges: [EdgeSegment {
-            column: 0,
-            low: 0,
-            high: 0,
-        }; 256],
-    }
-}
-
 // Draws a sheet; it refuses 9 alone.
 pub fn draw(s: Sheet) -> Result<Drawing, Refusal>
     ensures { result ≡ draw_call s }
@@ -206,19 +161,18 @@ pub fn draw(s: Sheet) -> Result<Drawing, Refusal>
     let to = leading_faces(s.edges, 1, &found.faces);
     // The faces of a sound sheet make no circle.
     let level = digraph::levels(found.count, s.edges, &from, &to).unwrap();
-    let last = level[wide(to[0])];
+    let last = level[usize::from(to[0])];
     let columns = columns_beside(s.edges, &level, &from, last, 0);
     let ends = columns_beside(s.edges, &level, &to, last, 1);
     Ok(compose(s, &found.rows, &columns, &ends))
 }
 
 // What draw returns beside its answer: refused, a record of zeros.
-#[tactic(auto, unfolding(drawing::specs::Draw::returned))]
 pub fn returned(answer: Result<Drawing, Refusal>) -> Drawing
     ensures { result ≡ returned answer }
 {
     match answer {
         Ok(drawing) => drawing,
-        Err(_) => zeros(),
+        Err(_) => Drawing::default(),
     }
 }

@@ -3,7 +3,7 @@
 
 // A vertex (bar) lies in its row, from its first to its last column.
 #[repr(C)]
-#[derive(Clone, Copy)]
+#[derive(Clone, Copy, Default)]
 pub struct VertexSegment {
     pub row: u16,
     pub first: u16,
@@ -12,7 +12,7 @@ pub struct VertexSegment {
 
 // An edge (wire) stands in its column, from its tail's row to its head's row.
 #[repr(C)]
-#[derive(Clone, Copy)]
+#[derive(Clone, Copy, Default)]
 pub struct EdgeSegment {
     pub column: u16,
     pub low: u16,
@@ -21,7 +21,7 @@ pub struct EdgeSegment {
 
 // The drawing record; unused entries are 0.
 #[repr(C)]
-#[derive(Clone, Copy)]
+#[derive(Clone, Copy, Default)]
 pub struct Drawing {
     pub rows: u16,
     pub columns: u16,

@@ -23,10 +23,10 @@ unwrap-level-requires c =
     let F = found (search rules) c.examine.ensures c.in_ok-found.was in
     rw (levels_found F c.leading_faces-from.ensures c.leading_faces-to.ensures c.levels.ensures) refl
 
-pub bounds-level-wide : goal.bounds-level-wide
-bounds-level-wide c =
+pub bounds-level-from : goal.bounds-level-from
+bounds-level-from c =
     let F = found (search rules) c.examine.ensures c.in_ok-found.was in
-    omega (arith, c.wide.ensures.0, first_in (leveled_from F c.leading_faces-from.ensures c.leading_faces-to.ensures c.levels.ensures c.unwrap-level.ensures))
+    omega (arith, c.from.ensures, first_in (leveled_from F c.leading_faces-from.ensures c.leading_faces-to.ensures c.levels.ensures c.unwrap-level.ensures))
 
 pub columns_beside-columns-requires : goal.columns_beside-columns-requires
 columns_beside-columns-requires c =
@@ -41,10 +41,10 @@ columns_beside-ends-requires c =
 pub compose-requires : goal.compose-requires
 compose-requires c =
     let F = found (search rules) c.examine.ensures c.in_ok-found.was in
-    all_small (leveled_from F c.leading_faces-from.ensures c.leading_faces-to.ensures c.levels.ensures c.unwrap-level.ensures) c.wide.ensures.0 c.columns_beside-columns.ensures
+    all_small (leveled_from F c.leading_faces-from.ensures c.leading_faces-to.ensures c.levels.ensures c.unwrap-level.ensures) c.from.ensures c.columns_beside-columns.ensures
 
 pub returns : goal.returns
 returns c =
     let F = found (search rules) c.examine.ensures c.in_ok-found.was in
     let L = leveled_from F c.leading_faces-from.ensures c.leading_faces-to.ensures c.levels.ensures c.unwrap-level.ensures in
-    is_sound _ F.is_so _ (all_laid L c.wide.ensures.0 c.columns_beside-columns.ensures c.columns_beside-ends.ensures c.compose.ensures)
+    is_sound _ F.is_so _ (all_laid L c.from.ensures c.columns_beside-columns.ensures c.columns_beside-ends.ensures c.compose.ensures)

@@ -1,18 +1,9 @@
--- `draw::unreached` meets its contract. The first v entries are filled. Assumes nothing.
-use Rattle.std.proofs.Common.{rules}
-use mathlib.Core.Path.{refl}
-use native.Mathlib.Omega.{arith}
+-- `unreached` meets its contract: its table is that of the segments. Assumes nothing.
+use Rattle.std.proofs.Common.{◌≡◌, rules}
 use Rattle.drawing.specs.Draw.{no_vertex_segment}
 use Rattle.draw.specs.Inner.{unreached_from}
-use Rattle.draw.proofs.Filling.{table_none, table_more, table_over}
 use Rattle.draw.proofs.unreached.Goals as goal
 
-pub loop-v-init : goal.loop-v-init
-loop-v-init c = (search rules, table_none _ 128 no_vertex_segment)
-
-pub loop-v-preserved : goal.loop-v-preserved
-unfolding unreached_from
-loop-v-preserved c = (search rules, table_more _ 128 no_vertex_segment c.loop-v.v (omega arith) _ c.loop-v.invariant.1 _ refl)
-
 pub returns : goal.returns
-returns c = table_over _ 128 no_vertex_segment c.loop-v.v _ _ c.loop-v.invariant.1 (omega arith) (omega arith)
+unfolding unreached_from
+returns c = let z : c.default.result ≡ no_vertex_segment = search rules in rw z at (c.table.ensures (unreached_from c.args.rows.now) (λ k x h p. search rules))

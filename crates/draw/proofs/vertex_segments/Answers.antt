@@ -1,5 +1,4 @@
 -- `draw::vertex_segments` meets its contract. The segments reach as far as those of the first k edges that leave the vertices. Assumes nothing.
-use Rattle.std.proofs.Common.{rules}
 use Prim.Native.Nat.{◌<◌}
 use mathlib.Core.Path.{◌≡◌, refl, ◌∙◌}
 use native.Mathlib.Omega.{arith}
@@ -9,24 +8,24 @@ use Rattle.draw.proofs.Widening.{reached_none, widened_more, sink_put}
 use Rattle.draw.proofs.vertex_segments.Goals as goal
 
 pub loop-k-init : goal.loop-k-init
-loop-k-init c = (search rules, c.unreached-vertices.ensures ∙ table_agree _ 128 no_vertex_segment _ _ (λ v _. reached_none _ _ _ _ v))
+loop-k-init c = c.unreached-vertices.ensures ∙ table_agree _ 128 no_vertex_segment _ _ (λ v _. reached_none _ _ _ _ v)
 
 pub bounds-vertices-tail : goal.bounds-vertices-tail
 bounds-vertices-tail c =
-    let tail_in : c.wide-tail.result < 128 = omega (arith, c.wide-tail.ensures.0, c.requires.1, c.requires.2.inside c.loop-k.k c.loop-k-test.true) in
+    let tail_in : c.from-tail.result < 128 = omega (arith, c.from-tail.ensures, c.requires.1, c.requires.2.inside c.loop-k.k c.loop-k-test.true) in
     tail_in
 
 pub bounds-vertices-tail-in-loop-k : goal.bounds-vertices-tail-in-loop-k
 bounds-vertices-tail-in-loop-k c =
-    let tail_in : c.wide-tail.result < 128 = omega (arith, c.wide-tail.ensures.0, c.requires.1, c.requires.2.inside c.loop-k.k c.loop-k-test.true) in
+    let tail_in : c.from-tail.result < 128 = omega (arith, c.from-tail.ensures, c.requires.1, c.requires.2.inside c.loop-k.k c.loop-k-test.true) in
     tail_in
 
 pub loop-k-preserved : goal.loop-k-preserved
 loop-k-preserved c =
     let k = c.loop-k.k in
-    (search rules, widened_more _ _ _ _ _ k (c.requires.2.inside k c.loop-k-test.true) _ c.loop-k.invariant.1 _ c.wide-tail.ensures.0 _ c.widened.ensures)
+    widened_more _ _ _ _ _ k (c.requires.2.inside k c.loop-k-test.true) _ c.loop-k.invariant _ c.from-tail.ensures _ c.widened.ensures
 
 pub returns : goal.returns
 returns c =
     let all : c.loop-k.k ≡ c.args.m = omega arith in
-    sink_put _ _ _ _ _ _ c.requires.0 _ (rw all at c.loop-k.invariant.1) _ refl
+    sink_put _ _ _ _ _ _ c.requires.0 _ (rw all at c.loop-k.invariant) _ refl

@@ -1,11 +1,7 @@
-use Prim.Native.Nat.{◌-◌, ◌≤◌}
-use mathlib.Core.Path.{◌≡◌}
+use Rattle.std.proofs.Common.{◌≡◌}
 use Rattle.drawing.specs.Draw.{no_vertex_segment}
 use Rattle.draw.specs.Inner.{table, vertex_from}
 use Rattle.draw.proofs.vertex_segments.Given as goal
 
 abbrev pub invariant-loop-k : goal.invariant-loop-k
-invariant-loop-k l = (l.k ≤ l.m) × (l.vertices ≡ table (vertex_from l.tails l.rows l.columns l.ends l.k) l.n 128 no_vertex_segment)
-
-abbrev pub decreases-loop-k : goal.decreases-loop-k
-decreases-loop-k l = l.m - l.k
+invariant-loop-k l = l.vertices ≡ table (vertex_from l.tails l.rows l.columns l.ends l.k) l.n 128 no_vertex_segment
