@@ -115,7 +115,7 @@ module _ {s : Sheet} (S : Sound s) where
       (λ e. ap (vertex s) (dart_tail s w v e) ∙ dart_vertex s true w ∙ e)
       (λ e. ap (vertex s) (dart_head s w v e) ∙ dart_vertex s false w ∙ head_touches s.tails s.heads w v (lowest_edge v h).passes e)
 
-  next_below : (d : ℕ) → d < darts s → next s d < darts s
+  pub next_below : (d : ℕ) → d < darts s → next s d < darts s
   next_below d h = (rotation_of S).perm.below d h
 
   -- entry v of those that the vertices have
@@ -126,13 +126,12 @@ module _ {s : Sheet} (S : Sound s) where
     first_is : first ≡ lowest_dart s v
     first_is = e ∙ get_or-take s.vertices firsts v 0 ring_inside ∙ F.each v ring_inside
 
-    -- what the writing of a vertex's ring asks
-    pub ring_asks : (darts s ≤ 512) × (first < darts s) × ((d : ℕ) → d < darts s → next s d < darts s)
-    ring_asks = (omega (arith, S.limits.edges_most), omega (arith, first_is, lowest_below_law v ring_inside), next_below)
+    pub first_below : first < darts s
+    first_below = omega (arith, first_is, lowest_below_law v ring_inside)
 
-    pub ring_listed : (edges : List ℕ) → edges ≡ ring_from (darts s) s first first → edges ≡ rotation s v
+    pub ring_listed : ring_from (darts s) s first first ≡ rotation s v
     unfolding rotation
-    ring_listed edges q = q ∙ ap (λ d. ring_from (darts s) s d d) first_is
+    ring_listed = ap (λ d. ring_from (darts s) s d d) first_is
 
 -- an end of an edge of a sound sheet has a place among 128
 module _ {s : Sheet} (S : Sound s) {k v : ℕ} (h : k < s.edges) where

@@ -2,7 +2,7 @@
 use Rattle.std.specs.Prelude.{ℕ, ◌<◌, ◌≡◌, List, [], ◌∷◌, get_or}
 use Rattle.text.specs.Written.{line}
 use Rattle.sheet.specs.declared.Sheet.{Sheet}
-use Rattle.sheet.specs.Darts.{sheet_of, tail, head}
+use Rattle.sheet.specs.Darts.{darts, tail, head}
 use Rattle.text.specs.Keys.{wire_key, around_key}
 use Rattle.writesheet.specs.Rings.{ring_from, lowest_dart, rotation}
 
@@ -12,9 +12,9 @@ edge_text s k = line wire_key (tail s k ∷ head s k ∷ [])
 abbrev pub ring_text : Sheet → ℕ → List ℕ
 ring_text s v = line around_key (rotation s v)
 
--- the line of the ring from dart `first` on, by the table of the next darts
-abbrev pub ring_line : ℕ → List ℕ → ℕ → List ℕ
-ring_line darts nexts first = line around_key (ring_from darts (sheet_of 0 0 [] [] nexts) first first)
+-- the line of the ring from dart `first` on
+abbrev pub ring_line : Sheet → ℕ → List ℕ
+ring_line s first = line around_key (ring_from (darts s) s first first)
 
 -- a table of the darts of the vertices' lowest edges
 pub record Firsts (s : Sheet) (firsts : List ℕ) : Type 0 where

@@ -5,20 +5,20 @@ use Rattle.writesheet.proofs.Measure.{sheet_size}
 use Rattle.writesheet.proofs.put_sheet.Goals as goal
 
 pub put_line-requires-clause-room : goal.put_line-requires-clause-room
-put_line-requires-clause-room g c = omega (arith, c.requires.room, sheet_size c.args.s)
+put_line-requires-clause-room g c = omega (arith, c.requires.room, sheet_size c.args.s.now)
 
 pub put_line-requires-2-clause-room : goal.put_line-requires-2-clause-room
-put_line-requires-2-clause-room g c = omega (arith, c.requires.room, sheet_size c.args.s, g.met.S.Sink.counted _ _ _ c.put_line.ensures)
+put_line-requires-2-clause-room g c = omega (arith, c.requires.room, sheet_size c.args.s.now, g.met.S.Sink.counted _ _ _ c.put_line.ensures)
 
 pub put_edges-requires-clause-room : goal.put_edges-requires-clause-room
 put_edges-requires-clause-room g c =
     let counted = g.met.S.Sink.counted in
-    omega (arith, c.requires.room, sheet_size c.args.s, counted _ _ _ c.put_line.ensures, counted _ _ _ c.put_line-2.ensures)
+    omega (arith, c.requires.room, sheet_size c.args.s.now, counted _ _ _ c.put_line.ensures, counted _ _ _ c.put_line-2.ensures)
 
 pub put_rings-requires-clause-room : goal.put_rings-requires-clause-room
 put_rings-requires-clause-room g c =
     let counted = g.met.S.Sink.counted in
-    omega (arith, c.requires.room, sheet_size c.args.s, counted _ _ _ c.put_line.ensures, counted _ _ _ c.put_line-2.ensures, counted _ _ _ c.put_edges.ensures)
+    omega (arith, c.requires.room, sheet_size c.args.s.now, counted _ _ _ c.put_line.ensures, counted _ _ _ c.put_line-2.ensures, counted _ _ _ c.put_edges.ensures)
 
 pub returns : goal.returns
 unfolding sheet_text
