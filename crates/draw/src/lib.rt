@@ -61,24 +61,18 @@ fn columns_beside(
     })
 }
 
-// The segment of each of m edges.
-fn edge_segments(
-    m: usize,
-    tails: &[u16; 256],
-    heads: &[u16; 256],
-    rows: &[u16; 256],
-    columns: &[u16; 256],
-) -> [EdgeSegment; 256]
-    requires { Ends 256 m tails.now × Ends 256 m heads.now }
-    ensures { result ≡ table (edge_from tails.now heads.now rows.now columns.now) m 256 no_edge_segment }
+// The segment of each edge.
+fn edge_segments(s: &Sheet, rows: &[u16; 256], columns: &[u16; 256]) -> [EdgeSegment; 256]
+    requires { Ends 256 s.now.edges s.now.tails × Ends 256 s.now.edges s.now.heads }
+    ensures { result ≡ table (edge_from s.now.tails s.now.heads rows.now columns.now) s.now.edges 256 no_edge_segment }
 {
     table(
-        m,
+        s.edges,
         EdgeSegment::default(),
         |k| EdgeSegment {
             column: columns[k],
-            low: rows[usize::from(tails[k])],
-            high: rows[usize::from(heads[k])],
+            low: rows[usize::from(s.tails[k])],
+            high: rows[usize::from(s.heads[k])],
         },
     )
 }
@@ -110,22 +104,20 @@ fn unreached(n: usize, rows: &[u16; 256]) -> [VertexSegment; 128]
     )
 }
 
-// The segment of each of n vertices, widened by each of m edges that leaves it: those that enter it stand between these. None leaves vertex 1, which goes
-// as far as vertex 0.
+// The segment of each vertex, widened by each edge that leaves it: those that enter it stand between these. None leaves vertex 1, which goes as far as
+// vertex 0.
 fn vertex_segments(
-    n: usize,
-    m: usize,
-    tails: &[u16; 256],
+    s: &Sheet,
     rows: &[u16; 256],
     columns: &[u16; 256],
     ends: &[u16; 256],
 ) -> [VertexSegment; 128]
-    requires { (1 < n) × (n ≤ 128) × Ends n m tails.now }
-    ensures { result ≡ table (segment_from m tails.now rows.now columns.now ends.now) n 128 no_vertex_segment }
+    requires { (1 < s.now.vertices) × (s.now.vertices ≤ 128) × Ends s.now.vertices s.now.edges s.now.tails }
+    ensures { result ≡ table (segment_from s.now.edges s.now.tails rows.now columns.now ends.now) s.now.vertices 128 no_vertex_segment }
 {
-    let mut vertices = unreached(n, rows);
-    for k in 0..m {
-        let tail = usize::from(tails[k]);
+    let mut vertices = unreached(s.vertices, rows);
+    for k in 0..s.edges {
+        let tail = usize::from(s.tails[k]);
         vertices[tail] = widened(vertices[tail], columns[k], ends[k]);
     }
     vertices[1] = VertexSegment {
@@ -136,19 +128,15 @@ fn vertex_segments(
 }
 
 // The drawing, from the rows of the vertices, the columns of the edges and how far right these let their vertices go.
-fn compose(s: Sheet, rows: &[u16; 256], columns: &[u16; 256], ends: &[u16; 256]) -> Drawing
-    requires { Sound s × (get_or rows.now 1 0 < 256) × (get_or columns.now 0 0 < 256) }
-    ensures { result ≡ drawing_from s rows.now columns.now ends.now }
+fn compose(s: &Sheet, rows: &[u16; 256], columns: &[u16; 256], ends: &[u16; 256]) -> Drawing
+    requires { Sound s.now × (get_or rows.now 1 0 < 256) × (get_or columns.now 0 0 < 256) }
+    ensures { result ≡ drawing_from s.now rows.now columns.now ends.now }
 {
-    let tails = s.tails;
-    let heads = s.heads;
-    let vertices = vertex_segments(s.vertices, s.edges, &tails, rows, columns, ends);
-    let edges = edge_segments(s.edges, &tails, &heads, rows, columns);
     Drawing {
         rows: rows[1] + 1,
         columns: columns[0] + 1,
-        vertices,
-        edges,
+        vertices: vertex_segments(s, rows, columns, ends),
+        edges: edge_segments(s, rows, columns),
     }
 }
 
@@ -164,7 +152,7 @@ pub fn draw(s: Sheet) -> Result<Drawing, Refusal>
     let last = level[usize::from(to[0])];
     let columns = columns_beside(s.edges, &level, &from, last, 0);
     let ends = columns_beside(s.edges, &level, &to, last, 1);
-    Ok(compose(s, &found.rows, &columns, &ends))
+    Ok(compose(&s, &found.rows, &columns, &ends))
 }
 
 // What draw returns beside its answer: refused, a record of zeros.

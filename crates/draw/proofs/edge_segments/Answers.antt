@@ -9,4 +9,4 @@ unfolding edge_from
 returns c =
     let a = c.args in
     let z : c.default.result ≡ no_edge_segment = search rules in
-    rw z at (c.table.ensures (edge_from a.tails.now a.heads.now a.rows.now a.columns.now) (λ k x h p. search rules))
+    rw z at (c.table.ensures (edge_from a.s.now.tails a.s.now.heads a.rows.now a.columns.now) (λ k x h p. search rules))

@@ -27,5 +27,5 @@ loop-k-preserved c =
 
 pub returns : goal.returns
 returns c =
-    let all : c.loop-k.k ≡ c.args.m = omega arith in
+    let all : c.loop-k.k ≡ c.args.s.now.edges = omega arith in
     sink_put _ _ _ _ _ _ c.requires.0 _ (rw all at c.loop-k.invariant) _ refl
