@@ -1,14 +1,11 @@
 -- Numbers and lines by their parts, how long they are, and how they are put. Assumes nothing.
-use Rattle.std.proofs.Common.{ℕ, ◌+◌, ◌-◌, ◌*◌, ◌/◌, ◌%◌, ◌≤◌, ◌<◌, ◌≡◌, List, [], ◌∷◌, ◌++◌, refl, sym, ap, ◌∙◌, append-nil, append_assoc, add-zero, add-one, arith, length, get_or, take, drop, length-append}
+use Rattle.std.proofs.Common.{ℕ, ◌+◌, ◌-◌, ◌*◌, ◌/◌, ◌%◌, ◌≤◌, ◌<◌, ◌≡◌, List, [], ◌∷◌, ◌++◌, refl, sym, ap, ◌∙◌, append-nil, append_assoc, add-zero, add-one, arith, length, get_or, take, drop, length-append, drop-drop, length-drop, take_all, take-append-drop, lt-ltb, le-ltb, ltb, set, set-set}
 use Rattle.std.specs.Int.{from_bool}
-use Rattle.std.proofs.lemmas.List.{drop-drop, length-drop, take_more, take_all, take-append-drop}
+use Rattle.std.proofs.lemmas.List.{take_more}
 use Rattle.std.proofs.lemmas.List.Edits.{sets-eq}
 use mathlib.Core.Logic.{by_cases}
 use native.Mathlib.Decide.{dec_lt}
-use borrow.Author.Tests.{lt-ltb, le-ltb}
-use lib.Dec.{ltb}
-use lib.ListN.{set}
-use lib.Seq.{sets, set-set, length-sets}
+use lib.Seq.{sets, length-sets}
 use Rattle.text.specs.Written.{decimal, separated, line_end, line}
 use Rattle.buffer.specs.Sinks.{Put, sets_append}
 

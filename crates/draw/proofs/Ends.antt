@@ -1,12 +1,7 @@
 -- The edges that leave a vertex of a sound sheet reach as far as all its edges; vertex 1, which none leaves, goes as far as vertex 0. Assumes nothing.
-use Prim.Native.Nat.{ℕ, ◌-◌, ◌/◌, ◌≤◌, ◌<◌}
-use mathlib.Core.Path.{◌≡◌, refl, sym, ap, ◌∙◌}
-use mathlib.Core.Logic.{◌≢◌, by_cases}
-use mathlib.Core.Bool.{true, cond}
+use Rattle.std.proofs.Common.{ℕ, ◌-◌, ◌/◌, ◌≤◌, ◌<◌, ◌≡◌, refl, sym, ap, ◌∙◌, ◌≢◌, true, cond, arith, eqb, ne_eqb, lt-ltb, le-ltb}
+use mathlib.Core.Logic.{by_cases}
 use native.Mathlib.Decide.{ℕ_discrete, dec_lt}
-use native.Mathlib.Omega.{arith}
-use lib.Dec.{eqb}
-use borrow.Author.Tests.{ne_eqb, lt-ltb, le-ltb}
 use Rattle.planarmap.proofs.Laws.{next_below}
 use Rattle.planarmap.proofs.Corners.{has_corners}
 use Rattle.planarmap.proofs.Spans.{column_of_law, long_extent}

@@ -1,12 +1,6 @@
 -- Arrays that are filled entry by entry. Assumes nothing.
-use Prim.Native.Nat.{ℕ, zero, suc, ◌+◌, ◌-◌, ◌≤◌, ◌<◌}
-use mathlib.Core.Path.{◌≡◌, refl, sym, ap, ◌∙◌}
-use mathlib.Core.Logic.{◌≢◌}
-use mathlib.Core.List.{List, ◌++◌}
-use native.Mathlib.Numerals.{add-one}
-use native.Mathlib.Omega.{arith}
-use lib.ListN.{get_or, set, length, length-set, replicate}
-use lib.Seq.{set_at, append_snoc, set-append_left, ext_get_or}
+use Rattle.std.proofs.Common.{ℕ, zero, suc, ◌+◌, ◌-◌, ◌≤◌, ◌<◌, ◌≡◌, refl, sym, ap, ◌∙◌, ◌≢◌, List, ◌++◌, add-one, arith, get_or, set, length, length-set, replicate, ext_get_or}
+use lib.Seq.{set_at, append_snoc, set-append_left}
 use Rattle.std.proofs.lemmas.List.{length-replicate, get_or-replicate}
 use Rattle.std.specs.Array.{AllOfLen}
 use Rattle.counting.specs.Below.{tabulate}

@@ -1,14 +1,7 @@
 -- The drawing that is composed from rows and columns is the drawing of the sheet. Assumes nothing.
-use Prim.Native.Nat.{ℕ, ◌+◌, ◌<◌, min, max}
-use mathlib.Core.Path.{◌≡◌, refl, ◌∙◌}
-use mathlib.Core.Logic.{◌≢◌, by_cases}
-use mathlib.Core.Bool.{Bool}
-use mathlib.Core.List.{List}
+use Rattle.std.proofs.Common.{ℕ, ◌+◌, ◌<◌, min, max, ◌≡◌, refl, ◌∙◌, ◌≢◌, Bool, List, arith, eqb, get_or, eqb-true, eq-eqb, ne_eqb}
+use mathlib.Core.Logic.{by_cases}
 use native.Mathlib.Decide.{ℕ_discrete}
-use native.Mathlib.Omega.{arith}
-use lib.Dec.{eqb}
-use lib.ListN.{get_or}
-use borrow.Author.Tests.{eqb-true, eq-eqb, ne_eqb}
 use Rattle.sheet.specs.declared.Sheet.{Sheet}
 use Rattle.sheet.specs.Darts.{tail}
 use Rattle.sheet.specs.Sound.{Sound}

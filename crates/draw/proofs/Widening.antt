@@ -1,13 +1,5 @@
 -- The segments of the vertices, widened edge by edge. Assumes nothing.
-use Prim.Native.Nat.{ℕ, ◌+◌, ◌<◌, min, max}
-use mathlib.Core.Path.{◌≡◌, refl, sym, ap, ◌∙◌}
-use mathlib.Core.Logic.{◌≢◌}
-use mathlib.Core.Bool.{Bool}
-use mathlib.Core.List.{List}
-use native.Mathlib.Omega.{arith}
-use lib.Dec.{eqb}
-use lib.ListN.{get_or, set}
-use borrow.Author.Tests.{eq-eqb, ne_eqb}
+use Rattle.std.proofs.Common.{ℕ, ◌+◌, ◌<◌, min, max, ◌≡◌, refl, sym, ap, ◌∙◌, ◌≢◌, Bool, List, arith, eqb, get_or, set, eq-eqb, ne_eqb}
 use Rattle.drawing.specs.declared.VertexSegment.{VertexSegment}
 use Rattle.drawing.specs.Draw.{no_vertex_segment}
 use Rattle.draw.specs.Inner.{table, best_below, unreached_from, vertex_from, segment_from, widened_by}

@@ -1,11 +1,7 @@
 -- Nothing touches that may not, in the drawing of a sound sheet.
-use mathlib.Core.Path.{◌≡◌, sym, ◌∙◌, ap, subst}
-use mathlib.Core.Logic.{inl, inr, by_cases}
-use mathlib.Core.Bool.{Bool, true, false}
-use Prim.Native.Nat.{ℕ, ◌*◌, ◌<◌}
-use native.Mathlib.Nat.{mul-le-mul_right}
+use Rattle.std.proofs.Common.{◌≡◌, sym, ◌∙◌, ap, subst, inl, inr, Bool, true, false, ℕ, ◌*◌, ◌<◌, mul-le-mul_right, arith}
+use mathlib.Core.Logic.{by_cases}
 use native.Mathlib.Decide.{ℕ_discrete}
-use native.Mathlib.Omega.{arith}
 use Rattle.planarmap.specs.Order.{Edge}
 use Rattle.planarmap.specs.Contact.{NoContact, Reaches, Joins}
 use Rattle.planarmap.specs.Contact as plane

@@ -1,10 +1,7 @@
 -- Demand 3: the drawing of a sound sheet is right.
-use mathlib.Core.Path.{ap}
+use Rattle.std.proofs.Common.{ap, true, false, ℕ, ◌<◌, arith}
 use mathlib.Core.Logic.{by_cases}
-use mathlib.Core.Bool.{true, false}
-use Prim.Native.Nat.{ℕ, ◌<◌}
 use native.Mathlib.Decide.{ℕ_discrete}
-use native.Mathlib.Omega.{arith}
 use Rattle.counting.proofs.Paths.{longest_unique}
 use Rattle.planarmap.proofs.Chain.{row_ends}
 use Rattle.sheet.specs.declared.Sheet.{Sheet}

@@ -1,10 +1,6 @@
 -- The drawing of a sound sheet is as laid down.
-use mathlib.Core.Path.{◌≡◌, refl, sym, ◌∙◌, ap}
-use mathlib.Core.Bool.{true}
-use mathlib.Core.List.{List, [], ◌∷◌, ◌++◌}
-use Prim.Native.Nat.{ℕ, zero, suc, ◌+◌, ◌-◌, ◌≤◌, ◌<◌}
-use native.Mathlib.Omega.{arith}
-use lib.ListN.{get_or, length, length-append, replicate, length-replicate}
+use Rattle.std.proofs.Common.{◌≡◌, refl, sym, ◌∙◌, ap, true, List, [], ◌∷◌, ◌++◌, ℕ, zero, suc, ◌+◌, ◌-◌, ◌≤◌, ◌<◌, arith, get_or, length, length-append, replicate}
+use lib.ListN.{length-replicate}
 use Rattle.counting.specs.Below.{tabulate}
 use Rattle.counting.proofs.Below.{length_tabulate}
 use Rattle.sheet.specs.declared.Sheet.{Sheet}

@@ -1,8 +1,5 @@
 -- A bar but 0 and 1 goes up to its right neighbour, in the drawing of a sound sheet.
-use mathlib.Core.Path.{◌≡◌, sym, ◌∙◌, ap}
-use mathlib.Core.Bool.{true}
-use Prim.Native.Nat.{◌/◌}
-use native.Mathlib.Omega.{arith}
+use Rattle.std.proofs.Common.{◌≡◌, sym, ◌∙◌, ap, true, ◌/◌, arith}
 use Rattle.planarmap.proofs.Corners.{has_corners}
 use Rattle.planarmap.proofs.Neighbours.{neighbour}
 use Rattle.clauses.specs.Darts.{opposite}

@@ -1,12 +1,9 @@
 -- The ring of each bar stands in its order, in the drawing of a sound sheet.
-use mathlib.Core.Path.{◌≡◌, refl, sym, ◌∙◌, ap, subst}
-use mathlib.Core.Logic.{◌≢◌, ◌⊎◌, inl, inr, by_cases}
+use Rattle.std.proofs.Common.{◌≡◌, refl, sym, ◌∙◌, ap, subst, ◌≢◌, ◌⊎◌, inl, inr, List, ◌++◌, ℕ, zero, suc, ◌/◌, ◌<◌, arith, get_or}
+use mathlib.Core.Logic.{by_cases}
 use mathlib.Core.List.Memᴰ
-use mathlib.Core.List.{List, ◌++◌, Memᴰ}
-use Prim.Native.Nat.{ℕ, zero, suc, ◌/◌, ◌<◌}
+use mathlib.Core.List.{Memᴰ}
 use native.Mathlib.Decide.{ℕ_discrete}
-use native.Mathlib.Omega.{arith}
-use lib.ListN.{get_or}
 use Rattle.counting.specs.Orbits.{iter}
 use Rattle.counting.proofs.Iterate.{clash, iter_keeps}
 use Rattle.counting.proofs.Pigeonhole.{Found, find}

@@ -1,8 +1,5 @@
 -- Columns do not depend on how the faces are numbered.
-use mathlib.Core.Path.{◌≡◌, refl, sym, ◌∙◌, subst}
-use mathlib.Core.Bool.{true}
-use Prim.Native.Nat.{ℕ, ◌<◌}
-use native.Mathlib.Omega.{arith}
+use Rattle.std.proofs.Common.{◌≡◌, refl, sym, ◌∙◌, subst, true, ℕ, ◌<◌, arith}
 use Rattle.counting.specs.Paths.{Path}
 use Rattle.counting.specs.Paths.Path.{here, more}
 use Rattle.counting.proofs.Orbits.{kept_joined}

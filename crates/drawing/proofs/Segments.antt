@@ -1,13 +1,7 @@
 -- The segments of a sound sheet's drawing, read as those of its map.
-use mathlib.Core.Path.{◌≡◌, refl, sym, ◌∙◌, ap}
-use mathlib.Core.Logic.{◌≢◌, ◌⊎◌, inl, inr, by_cases}
-use mathlib.Core.Bool.{Bool, true, false, cond}
-use mathlib.Core.List.{List}
-use Prim.Native.Nat.{ℕ, suc, ◌-◌, ◌/◌, ◌≤◌, ◌<◌}
+use Rattle.std.proofs.Common.{◌≡◌, refl, sym, ◌∙◌, ap, ◌≢◌, ◌⊎◌, inl, inr, Bool, true, false, cond, List, ℕ, suc, ◌-◌, ◌/◌, ◌≤◌, ◌<◌, arith, replicate, le-ltb}
+use mathlib.Core.Logic.{by_cases}
 use native.Mathlib.Decide.{ℕ_discrete}
-use native.Mathlib.Omega.{arith}
-use lib.ListN.{replicate}
-use borrow.Author.Tests.{le-ltb}
 use Rattle.counting.proofs.Iterate.{by_bool, clash}
 use Rattle.planarmap.specs.Contact as plane
 use Rattle.planarmap.specs.Contact.{Least, Greatest, Long}

@@ -1,9 +1,5 @@
 -- The face to the right of a bar's rightmost wires, in the drawing of a sound sheet.
-use mathlib.Core.Path.{◌≡◌, refl, sym, ◌∙◌, ap, subst}
-use mathlib.Core.Logic.{◌≢◌}
-use mathlib.Core.Bool.{Bool, true, false, cond}
-use Prim.Native.Nat.{ℕ, ◌+◌, ◌/◌, ◌<◌}
-use native.Mathlib.Omega.{arith}
+use Rattle.std.proofs.Common.{◌≡◌, refl, sym, ◌∙◌, ap, subst, ◌≢◌, Bool, true, false, cond, ℕ, ◌+◌, ◌/◌, ◌<◌, arith}
 use Rattle.counting.proofs.Iterate.{clash}
 use Rattle.planarmap.specs.Corners.{Right, corner_face}
 use Rattle.planarmap.specs.Contact as plane

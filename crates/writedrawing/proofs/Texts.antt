@@ -1,6 +1,5 @@
 -- The lines of a drawing, by their numbers; how long they and the whole text are. Assumes nothing.
-use Rattle.std.proofs.Common.{ℕ, ◌+◌, ◌*◌, ◌≤◌, ◌<◌, ◌≡◌, List, [], ◌∷◌, ap, arith, get_or, length, take, length-append, length-take}
-use Rattle.std.proofs.lemmas.List.{get_or-take}
+use Rattle.std.proofs.Common.{ℕ, ◌+◌, ◌*◌, ◌≤◌, ◌<◌, ◌≡◌, List, [], ◌∷◌, ap, arith, get_or, length, take, length-append, length-take, get_or-take}
 use Rattle.counting.specs.Below.{join_below}
 use Rattle.text.specs.Written.{line}
 use Rattle.text.specs.Keys.{wire_key}

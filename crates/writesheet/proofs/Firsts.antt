@@ -1,16 +1,7 @@
 -- The lowest dart of each vertex, by a table that is filled from the last edge down. Assumes nothing.
-use Prim.Native.Nat.{ℕ, zero, suc, ◌+◌, ◌*◌, ◌≤◌, ◌<◌}
-use mathlib.Core.Path.{◌≡◌, refl, sym, ap, ◌∙◌}
-use mathlib.Core.Logic.{◌≢◌, ◌⊎◌, inl, inr, by_cases}
-use mathlib.Core.Bool.{Bool, true, false, cond}
-use mathlib.Core.List.{List}
+use Rattle.std.proofs.Common.{length-take, ℕ, zero, suc, ◌+◌, ◌*◌, ◌≤◌, ◌<◌, ◌≡◌, refl, sym, ap, ◌∙◌, ◌≢◌, ◌⊎◌, inl, inr, Bool, true, false, cond, List, arith, eqb, get_or, set, length, length-set, take, get_or-set_same, get_or-set_other, get_or-take, eq-eqb, ne_eqb}
+use mathlib.Core.Logic.{by_cases}
 use native.Mathlib.Decide.{ℕ_discrete}
-use native.Mathlib.Omega.{arith}
-use Rattle.std.proofs.Common.{length-take}
-use lib.Dec.{eqb}
-use lib.ListN.{get_or, set, length, length-set, take}
-use lib.Seq.{get_or-set_same, get_or-set_other, get_or-take}
-use borrow.Author.Tests.{eq-eqb, ne_eqb}
 use Rattle.clauses.specs.Darts.{dart_of}
 use Rattle.clauses.proofs.Touching.{touches_tail, touches_head, head_touches}
 use Rattle.counting.specs.Below.{lowest_below}

@@ -1,5 +1,4 @@
-use Rattle.std.proofs.Common.{◌-◌, ◌∙◌, ap, length, take, drop, arith}
-use Rattle.std.proofs.lemmas.List.{take_all}
+use Rattle.std.proofs.Common.{◌-◌, ◌∙◌, ap, length, take, drop, arith, take_all}
 use Rattle.buffer.proofs.Writing.{others, others_more, others_room, line_parts, line_size, rest_part}
 use Rattle.buffer.proofs.put_line.Goals as goal
 

@@ -1,6 +1,5 @@
 -- `draw::compose` meets its contract. Assumes nothing.
-use mathlib.Core.Path.{refl}
-use native.Mathlib.Omega.{arith}
+use Rattle.std.proofs.Common.{refl, arith}
 use Rattle.draw.specs.Inner.{drawing_from}
 use Rattle.draw.proofs.compose.Goals as goal
 

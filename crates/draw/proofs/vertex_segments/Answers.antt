@@ -1,7 +1,5 @@
 -- `draw::vertex_segments` meets its contract. The segments reach as far as those of the first k edges that leave the vertices. Assumes nothing.
-use Prim.Native.Nat.{◌<◌}
-use mathlib.Core.Path.{◌≡◌, refl, ◌∙◌}
-use native.Mathlib.Omega.{arith}
+use Rattle.std.proofs.Common.{◌<◌, ◌≡◌, refl, ◌∙◌, arith}
 use Rattle.drawing.specs.Draw.{no_vertex_segment}
 use Rattle.draw.proofs.Filling.{table_agree}
 use Rattle.draw.proofs.Widening.{reached_none, widened_more, sink_put}

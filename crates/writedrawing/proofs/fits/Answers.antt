@@ -1,5 +1,4 @@
-use Rattle.std.proofs.Common.{sym, length, arith}
-use borrow.Author.Tests.{le-leb}
+use Rattle.std.proofs.Common.{sym, length, arith, le-leb}
 use Rattle.drawing.specs.Write.{drawing_text}
 use Rattle.writedrawing.proofs.Texts.{drawing_short}
 use Rattle.writedrawing.proofs.fits.Goals as goal

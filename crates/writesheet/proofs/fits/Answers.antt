@@ -1,5 +1,4 @@
-use Rattle.std.proofs.Common.{sym, length, arith}
-use borrow.Author.Tests.{le-leb}
+use Rattle.std.proofs.Common.{sym, length, arith, le-leb}
 use Rattle.writesheet.specs.Write.{sheet_text}
 use Rattle.writesheet.proofs.Entries.{sheet_short}
 use Rattle.writesheet.proofs.fits.Goals as goal

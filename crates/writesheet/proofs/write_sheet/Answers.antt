@@ -1,8 +1,5 @@
 -- `writesheet::write_sheet` meets its contract: a sheet that is not sound, then a buffer that is too short is refused. Assumes nothing.
-use Rattle.std.proofs.Common.{rules}
-use mathlib.Core.Path.{◌≡◌, sym, ◌∙◌}
-use mathlib.Core.Bool.{Bool, true}
-use borrow.Author.Tests.{leb-true, leb-false}
+use Rattle.std.proofs.Common.{rules, ◌≡◌, sym, ◌∙◌, Bool, true, leb-true, leb-false}
 use Rattle.sheet.specs.Sound.{Sound}
 use Rattle.sheet.specs.Check.{sound}
 use Rattle.sheet.specs.Darts.{Sized}

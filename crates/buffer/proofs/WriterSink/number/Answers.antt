@@ -1,5 +1,4 @@
-use Rattle.std.proofs.Common.{refl, arith}
-use lib.ListN.{length-set}
+use Rattle.std.proofs.Common.{refl, arith, length-set}
 use Rattle.buffer.proofs.Writing.{digits_many, digits_put}
 use Rattle.buffer.proofs.WriterSink.number.Goals as goal
 
