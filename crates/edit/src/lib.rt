@@ -2,7 +2,9 @@
 #![tactic(auto)]
 
 ghost use Rattle.std.specs.Prelude.{◌≡◌};
+ghost use Rattle.text.specs.Reading.{numbers_of, last_line_at};
 ghost use Rattle.edit.specs.Calls.{sheet_after};
+ghost use Rattle.edit.specs.Inner.{counted};
 ghost use Rattle.edit.specs.Lines.{edit_of, edit_answer, line_length, read_edit};
 
 use answers::Refusal;
@@ -42,35 +44,40 @@ impl Edit {
 fn line_length(text: &[u8]) -> usize
     ensures { result ≡ line_length text.now }
 {
-    let mut i = 0;
-    while i < text.len() {
-        if text[i] == 10 {
-            return i + 1;
-        }
-        i += 1;
+    text.iter()
+        .position(|&b| b == b'\n')
+        .map_or(text.len(), |i| i + 1)
+}
+
+// The numbers of the line at the front of a text, if it has the key and so many of them.
+fn numbers(text: &[u8], key: &[u8], count: usize) -> Option<[u16; 4]>
+    ensures { result ≡ counted count (numbers_of (last_line_at key.now text.now 0)) }
+{
+    let read = text::last_line(text, 0, key)?;
+    if read.count != count {
+        return None;
     }
-    i
+    let values = read.values;
+    Some(values)
 }
 
 // The edit that the line at the front of a text reads as.
+#[tactic(auto, using(crate::proofs::Reading::edit_steps))]
 fn edit_of(text: &[u8]) -> Edit
     ensures { result ≡ edit_of text.now }
 {
-    let put_in = text::last_line(text, 0, b"in=");
-    if put_in.count == 1 {
-        return Edit::In(put_in.values[0]);
+    if let Some(values) = numbers(text, b"in=", 1) {
+        return Edit::In(values[0]);
     }
-    let run = text::last_line(text, 0, b"run=");
-    if run.count == 4 {
-        return Edit::Run(run.values[0], run.values[1], run.values[2], run.values[3]);
+    if let Some(values) = numbers(text, b"run=", 4) {
+        let [a, p, b, q] = values;
+        return Edit::Run(a, p, b, q);
     }
-    let out = text::last_line(text, 0, b"out=");
-    if out.count == 1 {
-        return Edit::Out(out.values[0]);
+    if let Some(values) = numbers(text, b"out=", 1) {
+        return Edit::Out(values[0]);
     }
-    let off = text::last_line(text, 0, b"off=");
-    if off.count == 1 {
-        return Edit::Off(off.values[0]);
+    if let Some(values) = numbers(text, b"off=", 1) {
+        return Edit::Off(values[0]);
     }
     Edit::Refused
 }

@@ -6,7 +6,7 @@ use native.Mathlib.Nat.{add-zero}
 use native.Mathlib.Decide.{dec_lt}
 use native.Mathlib.Omega.{arith}
 use lib.ListN.{get_or, length}
-use Rattle.text.specs.declared.Number.TheVariants.{Value}
+use Rattle.std.proofs.Common.{Some}
 use Rattle.text.specs.Reading.{digit_at, number_at}
 use Rattle.text.specs.Written.{decimal}
 use Rattle.layout.specs.Layout.{Stands}
@@ -28,22 +28,22 @@ module _ (s : List ℕ) (at : ℕ) where
   digit_at_law x i h e = rw e (sym (mid_digit (x + 48) (omega arith) (omega arith) ∙ omega arith))
 
   module _ (v : ℕ) (small : v < 1000) (h : Stands s at (decimal v)) (stop : 10 ≤ digit_at s (at + length (decimal v))) where
-    case_one : v < 10 → number_at s at ≡ Value v (at + length (decimal v))
+    case_one : v < 10 → number_at s at ≡ Some (v, at + length (decimal v))
     case_one l =
         let e = one v l in
         let n : length (decimal v) ≡ 1 = ap length e in
         sym (one_digit s at v (digit_at_law v at l (rw (add-zero, e) at (h.each 0 (omega arith)) ∙ omega arith)) l _ refl (rw n at stop)) ∙ rw n refl
 
-    case_two : 10 ≤ v → v < 100 → number_at s at ≡ Value v (at + length (decimal v))
+    case_two : 10 ≤ v → v < 100 → number_at s at ≡ Some (v, at + length (decimal v))
     case_two m l =
         let e = two v m l in
         let n : length (decimal v) ≡ 2 = ap length e in
         let a : v / 10 % 10 ≡ digit_at s at = digit_at_law (v / 10 % 10) at (omega arith) (rw (add-zero, e) at (h.each 0 (omega arith))) in
         let b : v % 10 ≡ digit_at s (at + 1) = digit_at_law (v % 10) (at + 1) (omega arith) (rw e at (h.each 1 (omega arith))) in
         sym (two_digits s at _ a (omega arith) _ b (omega arith) (λ z. omega arith) _ refl (rw n at stop))
-        ∙ rw n (ap (λ (x : ℕ). Value x (at + 2)) (omega arith))
+        ∙ rw n (ap (λ (x : ℕ). Some (x, at + 2)) (omega arith))
 
-    case_three : 100 ≤ v → number_at s at ≡ Value v (at + length (decimal v))
+    case_three : 100 ≤ v → number_at s at ≡ Some (v, at + length (decimal v))
     case_three m =
         let e = three v m in
         let n : length (decimal v) ≡ 3 = ap length e in
@@ -51,12 +51,12 @@ module _ (s : List ℕ) (at : ℕ) where
         let b : v / 10 % 10 ≡ digit_at s (at + 1) = digit_at_law (v / 10 % 10) (at + 1) (omega arith) (rw e at (h.each 1 (omega arith))) in
         let c : v % 10 ≡ digit_at s (at + 2) = digit_at_law (v % 10) (at + 2) (omega arith) (rw e at (h.each 2 (omega arith))) in
         sym (three_digits s at _ a (omega arith) _ b (omega arith) (λ z. omega arith) _ c (omega arith) _ refl (rw n at stop))
-        ∙ rw n (ap (λ (x : ℕ). Value x (at + 3)) (omega arith))
+        ∙ rw n (ap (λ (x : ℕ). Some (x, at + 3)) (omega arith))
 
-    pub number_back : number_at s at ≡ Value v (at + length (decimal v))
+    pub number_back : number_at s at ≡ Some (v, at + length (decimal v))
     number_back = go (dec_lt v 10) (dec_lt v 100)
       where
-        go : Dec (v < 10) → Dec (v < 100) → number_at s at ≡ Value v (at + length (decimal v))
+        go : Dec (v < 10) → Dec (v < 100) → number_at s at ≡ Some (v, at + length (decimal v))
         go (yes l) d = case_one l
         go (no n) (yes l) = case_two (omega arith) l
         go (no n) (no m) = case_three (omega arith)
@@ -115,5 +115,5 @@ module _ (s : List ℕ) (at : ℕ) where
               stop = stop_at (at + 3) h;
             }
 
-  pub number_stands : (v next : ℕ) → number_at s at ≡ Value v next → NumberAt s at v next
+  pub number_stands : (v next : ℕ) → number_at s at ≡ Some (v, next) → NumberAt s at v next
   number_stands v next e = by_digits s at (NumberAt s at) v next e stands_one stands_two stands_three

@@ -11,10 +11,9 @@ use borrow.Author.Tests.{eqb-true}
 use lib.Dec.{eqb}
 use lib.ListN.{get_or, length, drop, length-append, drop_of_length-le}
 use lib.Seq.{drop-cons}
-use Rattle.text.specs.declared.Number.{Number}
-use Rattle.text.specs.declared.Number.TheVariants.{Value, Missing}
+use Rattle.std.proofs.Common.{Some, None}
 use Rattle.text.specs.Written.{decimal, separated}
-use Rattle.text.specs.Reading.{number_at, starts_with, Listed, listed, unlisted, before, line_end_at, numbers_at, line_at, last_line_at}
+use Rattle.text.specs.Reading.{Number, number_at, starts_with, Listed, listed, unlisted, before, line_end_at, numbers_at, line_at, last_line_at}
 use Rattle.layout.specs.Layout.{Stands, Numerals, Walk, single, more, Same, LineEnd, LineAt, LastLineAt}
 use Rattle.layout.specs.Layout.LineEnd.{alone, after_13}
 use Rattle.layout.specs.Layout.LastLineAt.{whole, bare}
@@ -40,17 +39,17 @@ pub numbers_walk : (s vs : List ℕ) (at next : ℕ) → numbers_at s at ≡ lis
 unfolding before
 numbers_walk s vs at next e = go (number_at s at) refl
   where
-    further : (v to : ℕ) → number_at s at ≡ Value v to → get_or s to 0 ≡ 44 → (l : Listed) → numbers_at s (to + 1) ≡ l → Walk s at vs next
+    further : (v to : ℕ) → number_at s at ≡ Some (v, to) → get_or s to 0 ≡ 44 → (l : Listed) → numbers_at s (to + 1) ≡ l → Walk s at vs next
     further v to r c (listed ws n) m = same_listed (λ us i. Walk s at us i) (sym (numbers_more s at v to r c ∙ ap (before v) m) ∙ e) (more r c m)
     further v to r c unlisted m = never_listed (sym (numbers_more s at v to r c ∙ ap (before v) m) ∙ e)
 
-    after : (v to : ℕ) → number_at s at ≡ Value v to → Dec (get_or s to 0 ≡ 44) → Walk s at vs next
+    after : (v to : ℕ) → number_at s at ≡ Some (v, to) → Dec (get_or s to 0 ≡ 44) → Walk s at vs next
     after v to r (yes c) = further v to r c (numbers_at s (to + 1)) refl
     after v to r (no c) = same_listed (λ us i. Walk s at us i) (sym (numbers_last s at v to r c) ∙ e) (single r c)
 
     go : (r : Number) → number_at s at ≡ r → Walk s at vs next
-    go Missing r = never_listed (sym (numbers_none s at r) ∙ e)
-    go (Value v to) r = after v to r (ℕ_discrete (get_or s to 0) 44)
+    go None r = never_listed (sym (numbers_none s at r) ∙ e)
+    go (Some (v, to)) r = after v to r (ℕ_discrete (get_or s to 0) 44)
 
 numerals_more : (v : ℕ) (vs : List ℕ) → v < 1000 → ((i : ℕ) → i < length vs → get_or vs i 0 < 1000) → Numerals (v ∷ vs)
 numerals_more v vs h t = record { some = omega arith; small = small' }

@@ -1,7 +1,6 @@
 -- What stands at a place of a text, and what reading and writing owe each other.
-use Rattle.std.specs.Prelude.{ℕ, ◌+◌, ◌≤◌, ◌<◌, ◌≡◌, ◌≢◌, ◌⊎◌, List, [], ◌∷◌, ◌++◌, get_or, length}
+use Rattle.std.specs.Prelude.{ℕ, ◌+◌, ◌≤◌, ◌<◌, ◌≡◌, ◌≢◌, ◌⊎◌, List, [], ◌∷◌, ◌++◌, Some, get_or, length}
 use Rattle.std.proofs.lemmas.List.Edits.{sets}
-use Rattle.text.specs.declared.Number.TheVariants.{Value}
 use Rattle.text.specs.Written.{decimal, separated, line}
 use Rattle.text.specs.Reading.{digit_at, number_at, listed, line_end_at, numbers_at, line_at, last_line_at}
 
@@ -24,8 +23,8 @@ pub record Numerals (vs : List ℕ) : Type 0 where
 
 -- numbers that were read at a place: a single one, or one with a comma and more of them after it
 pub data Walk (s : List ℕ) (at : ℕ) : List ℕ → ℕ → Type 0 where
-  single : {v next : ℕ} → number_at s at ≡ Value v next → (get_or s next 0 ≡ 44 → ⊥) → Walk s at (v ∷ []) next
-  more : {v to next : ℕ} {vs : List ℕ} → number_at s at ≡ Value v to → get_or s to 0 ≡ 44 → numbers_at s (to + 1) ≡ listed vs next → Walk s at (v ∷ vs) next
+  single : {v next : ℕ} → number_at s at ≡ Some (v, next) → (get_or s next 0 ≡ 44 → ⊥) → Walk s at (v ∷ []) next
+  more : {v to next : ℕ} {vs : List ℕ} → number_at s at ≡ Some (v, to) → get_or s to 0 ≡ 44 → numbers_at s (to + 1) ≡ listed vs next → Walk s at (v ∷ vs) next
 
 -- a text of numbers, and what is read, are the same: the numbers vs, from a place up to the place next
 pub record Same (s : List ℕ) (at : ℕ) (vs ds : List ℕ) (next : ℕ) : Type 0 where

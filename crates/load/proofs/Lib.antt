@@ -1,4 +1,4 @@
 pub mod Occurrences
-pub mod Walking
 pub mod Ends
+pub mod Walking
 pub mod Turns

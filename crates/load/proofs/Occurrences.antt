@@ -1,22 +1,16 @@
 -- A list of edges that are marked one after the other, each of which fits the line of a vertex, is the vertex's rotation where it is as
 -- long as the vertex has edges: each edge stands there at most once, and the sums over all edges are equal. Assumes nothing.
-use Prim.Native.Nat.{ℕ, zero, suc, ◌+◌, ◌≤◌, ◌<◌}
-use mathlib.Core.Path.{◌≡◌, refl, sym, ap, ◌∙◌, subst}
-use mathlib.Core.Logic.{◌≢◌, by_cases}
-use mathlib.Core.Bool.{Bool, true, false, not, ◌&&◌, and-eq-true_iff, and-true, and-false}
-use mathlib.Core.List.{List, [], ◌∷◌}
+use Rattle.std.proofs.Common.{◌≡◌, ℕ, zero, suc, ◌+◌, ◌<◌, ◌≤◌, Bool, true, false, not, ◌&&◌, eqb, ltb, ◌≢◌, List, [], ◌∷◌, length, get_or, set, sym, refl, ap, ◌∙◌, subst, arith, length-set, get_or-set_other, get_or-set_same, ltb-true, eq-eqb, ne_eqb, eqb-true}
+use mathlib.Core.Logic.{by_cases}
+use mathlib.Core.Bool.{and-eq-true_iff, and-true, and-false}
 use native.Mathlib.Decide.{ℕ_discrete}
-use native.Mathlib.Omega.{arith}
-use borrow.Author.Tests.{ltb-true, eqb-true, eq-eqb, ne_eqb}
-use lib.Dec.{eqb, ltb}
-use lib.ListN.{get_or, set, length, length-set}
-use lib.Seq.{get_or-set_same, get_or-set_other}
 use Rattle.clauses.specs.Darts.{touches_of}
 use Rattle.counting.specs.Counts.{bit, count}
 use Rattle.counting.proofs.Iterate.{total, by_bool}
 use Rattle.counting.proofs.Below.{all_at, all_of}
 use Rattle.load.specs.Rings.{occurrences, all_in, is_rotation}
-use Rattle.sheet.specs.Darts.{sheet_of}
+use Rattle.sheet.specs.declared.Sheet.{Sheet}
+use Rattle.load.specs.Load.{with_nexts}
 use Rattle.load.specs.Inner.{fits_of, fit_from}
 
 -- ---- sums over the numbers below n
@@ -83,15 +77,15 @@ total_occurrences m (w ∷ ws) h =
 
 -- ---- edges that fit the line of v, and how often they stand there
 
-module _ (m : ℕ) (tails heads : List ℕ) (v : ℕ) where
+module _ (s : Sheet) (v : ℕ) where
   -- an edge of v that does not bear the line's mark
   free : List ℕ → ℕ → Bool
-  free seen k = touches_of tails heads k v && not (eqb (get_or seen k 0) (v + 1))
+  free seen k = touches_of s.tails s.heads k v && not (eqb (get_or seen k 0) (v + 1))
 
   module _ (seen : List ℕ) (w : ℕ) (l : w < length seen) where
     free_same : free (set seen w (v + 1)) w ≡ false
     unfolding free
-    free_same = rw (eq-eqb (get_or (set seen w (v + 1)) w 0) (v + 1) (get_or-set_same seen w (v + 1) 0 l)) (and-false (touches_of tails heads w v))
+    free_same = rw (eq-eqb (get_or (set seen w (v + 1)) w 0) (v + 1) (get_or-set_same seen w (v + 1) 0 l)) (and-false (touches_of s.tails s.heads w v))
 
     free_other : (k : ℕ) → k ≢ w → free (set seen w (v + 1)) k ≡ free seen k
     unfolding free
@@ -99,65 +93,65 @@ module _ (m : ℕ) (tails heads : List ℕ) (v : ℕ) where
 
   -- each stands there at most once, and only where it is free
   pub Once : List ℕ → List ℕ → Type 0
-  Once seen ws = (all_in (λ w. ltb w m) ws ≡ true) × ((k : ℕ) → k < m → occurrences k ws ≤ bit (free seen k))
+  Once seen ws = (all_in (λ w. ltb w s.edges) ws ≡ true) × ((k : ℕ) → k < s.edges → occurrences k ws ≤ bit (free seen k))
 
-  fit_once : (ws seen : List ℕ) → m ≤ length seen → fit_from m tails heads v seen ws ≡ true → Once seen ws
+  fit_once : (ws seen : List ℕ) → s.edges ≤ length seen → fit_from s v seen ws ≡ true → Once seen ws
   unfolding Once fit_from fits_of free all_in occurrences
   fit_once [] seen h f = (refl, λ k l. omega arith)
   fit_once (w ∷ ws) seen h f =
-      let (first, later) = (and-eq-true_iff (fits_of m tails heads v seen w) (fit_from m tails heads v (set seen w (v + 1)) ws)).0 f in
-      let (below, here) = (and-eq-true_iff (ltb w m) (free seen w)).0 first in
-      let l : w < length seen = omega (arith, ltb-true w m below) in
+      let (first, later) = (and-eq-true_iff (fits_of s v seen w) (fit_from s v (set seen w (v + 1)) ws)).0 f in
+      let (below, here) = (and-eq-true_iff (ltb w s.edges) (free seen w)).0 first in
+      let l : w < length seen = omega (arith, ltb-true w s.edges below) in
       let (all, once) = fit_once ws (set seen w (v + 1)) (omega (arith, length-set seen w (v + 1))) later in (
-        (and-eq-true_iff (ltb w m) (all_in (λ x. ltb x m) ws)).1 (below, all),
+        (and-eq-true_iff (ltb w s.edges) (all_in (λ x. ltb x s.edges) ws)).1 (below, all),
         λ k j.
             by_cases (ℕ_discrete k w)
-            (λ e. subst (λ x. occurrences x (w ∷ ws) ≤ bit (free seen x)) (sym e) (rw (eq-eqb w w refl, here) (omega (arith, rw (free_same seen w l) at (once w (ltb-true w m below))))))
+            (λ e. subst (λ x. occurrences x (w ∷ ws) ≤ bit (free seen x)) (sym e) (rw (eq-eqb w w refl, here) (omega (arith, rw (free_same seen w l) at (once w (ltb-true w s.edges below))))))
             (λ n. rw (ne_eqb w k (λ e. n (sym e))) (omega (arith, rw (free_other seen w l k n) at (once k j)))),
       )
 
-  once_fit : (ws seen : List ℕ) → m ≤ length seen → Once seen ws → fit_from m tails heads v seen ws ≡ true
+  once_fit : (ws seen : List ℕ) → s.edges ≤ length seen → Once seen ws → fit_from s v seen ws ≡ true
   unfolding Once fit_from fits_of free occurrences
   once_fit [] seen h o = refl
   once_fit (w ∷ ws) seen h o =
-      let (below, all) = all_in_head (λ x. ltb x m) w ws o.0 in
-      let one = rw (eq-eqb w w refl) at (o.1 w (ltb-true w m below)) in
+      let (below, all) = all_in_head (λ x. ltb x s.edges) w ws o.0 in
+      let one = rw (eq-eqb w w refl) at (o.1 w (ltb-true w s.edges below)) in
       let here : free seen w ≡ true = by_bool (free seen w) (λ t. t) (λ f. absurd (omega (arith, rw f at one))) in
-      let l : w < length seen = omega (arith, ltb-true w m below) in
+      let l : w < length seen = omega (arith, ltb-true w s.edges below) in
       let later = once_fit ws (set seen w (v + 1)) (omega (arith, length-set seen w (v + 1))) (
         all,
         λ k j.
             by_cases (ℕ_discrete k w) (λ e. rw e (omega (arith, rw here at one))) (λ n. rw (free_other seen w l k n) (omega (arith, rw (ne_eqb w k (λ e. n (sym e))) at (o.1 k j)))),
       ) in
-      (and-eq-true_iff (fits_of m tails heads v seen w) (fit_from m tails heads v (set seen w (v + 1)) ws)).1 ((and-eq-true_iff (ltb w m) (free seen w)).1 (below, here), later)
+      (and-eq-true_iff (fits_of s v seen w) (fit_from s v (set seen w (v + 1)) ws)).1 ((and-eq-true_iff (ltb w s.edges) (free seen w)).1 (below, here), later)
 
-  free_clear : (seen : List ℕ) (k : ℕ) → get_or seen k 0 ≤ v → free seen k ≡ touches_of tails heads k v
+  free_clear : (seen : List ℕ) (k : ℕ) → get_or seen k 0 ≤ v → free seen k ≡ touches_of s.tails s.heads k v
   unfolding free
-  free_clear seen k h = rw (ne_eqb (get_or seen k 0) (v + 1) (λ e. omega arith)) (and-true (touches_of tails heads k v))
+  free_clear seen k h = rw (ne_eqb (get_or seen k 0) (v + 1) (λ e. omega arith)) (and-true (touches_of s.tails s.heads k v))
 
 -- ---- the list is the rotation
 
-module _ (n m : ℕ) (tails heads nexts : List ℕ) (v : ℕ) (ws seen : List ℕ) (room : m ≤ length seen) (clear : (k : ℕ) → get_or seen k 0 ≤ v) (degree : ℕ)
-    (d : degree ≡ count (λ k. touches_of tails heads k v) m) where
-  pub rotation_if : length ws ≡ degree → fit_from m tails heads v seen ws ≡ true → is_rotation (sheet_of n m tails heads nexts) v ws ≡ true
-  unfolding is_rotation touches_of Once
+module _ (s : Sheet) (nexts : List ℕ) (v : ℕ) (ws seen : List ℕ) (room : s.edges ≤ length seen) (clear : (k : ℕ) → get_or seen k 0 ≤ v) (degree : ℕ)
+    (d : degree ≡ count (λ k. touches_of s.tails s.heads k v) s.edges) where
+  pub rotation_if : length ws ≡ degree → fit_from s v seen ws ≡ true → is_rotation (with_nexts s nexts) v ws ≡ true
+  unfolding is_rotation with_nexts touches_of Once
   rotation_if e f =
-      let (all, once) = fit_once m tails heads v ws seen room f in
-      let same = total_same (λ k. occurrences k ws) (λ k. bit (touches_of tails heads k v)) m (λ k l. rw (free_clear m tails heads v seen k (clear k)) at (once k l)) (total_occurrences m ws all ∙ e ∙ d ∙ sym (total_count (λ k. touches_of tails heads k v) m)) in
-      (and-eq-true_iff _ _).1 (all, all_of _ m (λ k l. eq-eqb _ _ (same k l)))
+      let (all, once) = fit_once s v ws seen room f in
+      let same = total_same (λ k. occurrences k ws) (λ k. bit (touches_of s.tails s.heads k v)) s.edges (λ k l. rw (free_clear s v seen k (clear k)) at (once k l)) (total_occurrences s.edges ws all ∙ e ∙ d ∙ sym (total_count (λ k. touches_of s.tails s.heads k v) s.edges)) in
+      (and-eq-true_iff _ _).1 (all, all_of _ s.edges (λ k l. eq-eqb _ _ (same k l)))
 
-  rotation_once : is_rotation (sheet_of n m tails heads nexts) v ws ≡ true
-      → (all_in (λ w. ltb w m) ws ≡ true) × ((k : ℕ) → k < m → occurrences k ws ≡ bit (touches_of tails heads k v))
-  unfolding is_rotation touches_of
-  rotation_once r = let (all, each) = (and-eq-true_iff _ _).0 r in (all, λ k l. eqb-true _ _ (all_at _ m each k l))
+  rotation_once : is_rotation (with_nexts s nexts) v ws ≡ true
+      → (all_in (λ w. ltb w s.edges) ws ≡ true) × ((k : ℕ) → k < s.edges → occurrences k ws ≡ bit (touches_of s.tails s.heads k v))
+  unfolding is_rotation with_nexts touches_of
+  rotation_once r = let (all, each) = (and-eq-true_iff _ _).0 r in (all, λ k l. eqb-true _ _ (all_at _ s.edges each k l))
 
-  pub rotation_length : is_rotation (sheet_of n m tails heads nexts) v ws ≡ true → length ws ≡ degree
+  pub rotation_length : is_rotation (with_nexts s nexts) v ws ≡ true → length ws ≡ degree
   rotation_length r =
       let (all, each) = rotation_once r in
-      sym (total_occurrences m ws all) ∙ total_agree (λ k. occurrences k ws) (λ k. bit (touches_of tails heads k v)) m each ∙ total_count (λ k. touches_of tails heads k v) m ∙ sym d
+      sym (total_occurrences s.edges ws all) ∙ total_agree (λ k. occurrences k ws) (λ k. bit (touches_of s.tails s.heads k v)) s.edges each ∙ total_count (λ k. touches_of s.tails s.heads k v) s.edges ∙ sym d
 
-  pub rotation_fits : is_rotation (sheet_of n m tails heads nexts) v ws ≡ true → fit_from m tails heads v seen ws ≡ true
+  pub rotation_fits : is_rotation (with_nexts s nexts) v ws ≡ true → fit_from s v seen ws ≡ true
   unfolding Once
   rotation_fits r =
       let (all, each) = rotation_once r in
-      once_fit m tails heads v ws seen room (all, λ k l. rw (free_clear m tails heads v seen k (clear k)) (omega (arith, each k l)))
+      once_fit s v ws seen room (all, λ k l. rw (free_clear s v seen k (clear k)) (omega (arith, each k l)))

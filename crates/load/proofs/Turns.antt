@@ -1,130 +1,58 @@
 -- The loops over the lines, turn by turn: what is left to read gives what the whole gives. Assumes nothing.
-use Rattle.std.specs.Prelude.{Ok, Err}
-use Prim.Native.Nat.{ℕ, zero, suc, ◌+◌, ◌-◌, ◌≤◌, ◌<◌}
-use mathlib.Core.Path.{◌≡◌, refl, sym, ap, ◌∙◌}
-use mathlib.Core.Logic.{◌≢◌, by_cases}
-use mathlib.Core.Bool.{Bool, true, false, not, ◌&&◌, and-eq-true_iff, false≢true}
-use mathlib.Core.List.{List, [], ◌∷◌}
+use Rattle.std.proofs.Common.{◌≡◌, ℕ, zero, suc, ◌+◌, ◌-◌, ◌<◌, ◌≤◌, Bool, true, false, cond, not, ◌&&◌, eqb, ltb, leb, ◌≢◌, List, [], ◌∷◌, length, get_or, set, replicate, Some, Ok, Err, Result, sym, refl, ◌∙◌, zero-add, arith, get_or-set_other, get_or-set_same, eq-eqb, eqb-true}
+use mathlib.Core.Logic.{by_cases}
+use mathlib.Core.Bool.{false≢true}
 use native.Mathlib.Decide.{ℕ_discrete}
-use native.Mathlib.Omega.{arith}
-use native.Mathlib.Nat.{zero-add}
-use borrow.Author.Tests.{leb-true, eqb-true, eq-eqb}
-use lib.Dec.{eqb, ltb, leb}
-use lib.ListN.{get_or, set, length, replicate}
-use lib.Seq.{get_or-set_same, get_or-set_other}
-use Rattle.clauses.specs.Darts.{touches_of, dart_of}
+use Rattle.counting.specs.Choice.{pick}
 use Rattle.counting.specs.Counts.{count}
 use Rattle.counting.proofs.Iterate.{by_bool}
-use Rattle.text.specs.declared.Numbers.{Numbers}
+use Rattle.clauses.specs.Darts.{touches_of, dart_of}
 use Rattle.text.specs.Reading.{Listed, line_at, numbers_of}
 use Rattle.text.specs.Reading.Listed.{listed, unlisted}
-use Rattle.text.specs.declared.Pair.TheVariants.{Two, Other}
 use Rattle.text.specs.Shapes.{with_one, with_some, pair_of}
-use Rattle.text.proofs.Counted.{one_is, one_not, two_is, two_not}
+use Rattle.text.specs.Keys.{bars_key, wires_key, wire_key, around_key}
+use Rattle.text.proofs.Counted.{one_by, one_counted, two_by, two_counted}
 use Rattle.sheet.specs.declared.Sheet.{Sheet}
-use Rattle.answers.specs.Refusals.{is_accepted}
-use Rattle.sheet.specs.Check.{judge}
 use Rattle.answers.specs.declared.Refusal.{Refusal}
-use Rattle.answers.specs.declared.Refusal.TheVariants.{BadLayout, CountOutOfLimits, BadEdge}
-use Rattle.load.specs.declared.lines.Count.{Count}
-use Rattle.load.specs.declared.lines.Count.TheVariants as counts
-use Rattle.load.specs.declared.lines.Step.{Step}
-use Rattle.load.specs.declared.lines.Step.TheVariants.{Next, Refused}
-use Rattle.text.specs.Keys.{wire_key, around_key}
+use Rattle.answers.specs.declared.Refusal.TheVariants.{BadLayout, CountOutOfLimits, BadEdge, BadRotation}
 use Rattle.load.specs.Rings.{is_rotation, link_from, link_ring}
-use Rattle.load.specs.Load.{Parsed, empty_sheet, with_edge, with_nexts, judged, ring_lines, edge_lines, with_count}
-use Rattle.sheet.specs.Darts.{sheet_of}
-use Rattle.load.specs.Inner.{no_nexts, count_of, Apart, Counted, after_edges, EdgesRead, after_rings, fit_from, linked_from, linked, Ringed, ringed, unringed, ringed_by, linked_on, ring_from, RingRead}
+use Rattle.load.specs.Load.{Parsed, empty_sheet, with_edge, with_nexts, judged, ring_lines, edge_lines, with_count, parse}
+use Rattle.load.specs.declared.Loaded.{Loaded}
+use Rattle.answers.specs.Refusals.{answering}
+use Rattle.sheet.specs.Check.{judge}
+use Rattle.load.specs.Inner.{count_of, Apart, fit_from, linked_from, linked, Ringed, ringed, unringed, linked_on, ring_from}
 use Rattle.load.proofs.Occurrences.{rotation_if, rotation_length, rotation_fits}
 
 -- ---- the count lines
 
-module _ (most : ℕ) (l : Listed) where
-  module _ (r : Numbers) (e : r ≡ numbers_of l) where
-    pub count_bad : (r.count ≡ 1 → ⊥) → counts.Refused BadLayout ≡ count_of most l
-    unfolding count_of
-    count_bad h = sym (one_not (counts.Refused BadLayout) _ l (rw e at h))
+module _ (most : ℕ) where
+  abbrev within : ℕ → ℕ → Result (ℕ × ℕ) Refusal
+  within n next = pick (leb 2 n && leb n most) (λ _. Ok (n, next)) (λ _. Err CountOutOfLimits)
 
-    module _ (one : r.count ≡ 1) (n : ℕ) (en : n ≡ get_or r.values 0 0) where
-      pub count_outside : (leb 2 n && leb n most) ≡ false → counts.Refused CountOutOfLimits ≡ count_of most l
-      unfolding count_of
-      count_outside h = sym (one_is (counts.Refused BadLayout) _ l (rw e at one) ∙ rw (← rw e at en, h) refl)
-
-      pub count_inside : (leb 2 n && leb n most) ≡ true → counts.Value n r.next ≡ count_of most l
-      unfolding count_of
-      count_inside h = rw e (sym (one_is (counts.Refused BadLayout) _ l (rw e at one) ∙ rw (← rw e at en, h) refl))
-
-  -- what load goes on to
-  go_on : (ℕ → ℕ → Parsed) → Count → Parsed
-  go_on good (counts.Value n next) = good n next
-  go_on good (counts.Refused a) = Err a
-
-  with_count_law : (good : ℕ → ℕ → Parsed) → with_count l most good ≡ go_on good (count_of most l)
-  unfolding with_count count_of go_on with_one
-  with_count_law good = go l
-    where
-      go : (x : Listed) → with_count x most good ≡ go_on good (count_of most x)
-      go unlisted = refl
-      go (listed [] next) = refl
-      go (listed (a ∷ []) next) = by_bool (leb 2 a && leb a most) (λ t. rw t refl) (λ f. rw f refl)
-      go (listed (a ∷ b ∷ vs) next) = refl
-
-  pub count_refused : (good : ℕ → ℕ → Parsed) (a : Refusal) → count_of most l ≡ counts.Refused a → Err a ≡ with_count l most good
-  unfolding go_on
-  count_refused good a e = sym (with_count_law good ∙ rw e refl)
-
-  pub count_value : (good : ℕ → ℕ → Parsed) (n next : ℕ) → count_of most l ≡ counts.Value n next → good n next ≡ with_count l most good
-  unfolding go_on
-  count_value good n next e = sym (with_count_law good ∙ rw e refl)
-
-  pub count_most : (n next : ℕ) → count_of most l ≡ counts.Value n next → n ≤ most
-  unfolding count_of with_one
-  count_most n next = go l
-    where
-      go : (x : Listed) → count_of most x ≡ counts.Value n next → n ≤ most
-      go unlisted e = let z : ◌≡◌ {A = ℕ} 0 1 = cc in absurd (omega arith)
-      go (listed [] after) e = let z : ◌≡◌ {A = ℕ} 0 1 = cc in absurd (omega arith)
-      go (listed (a ∷ []) after) e =
-          by_bool (leb 2 a && leb a most)
-          (λ t.
-          let f : counts.Value a after ≡ counts.Value n next = rw t at e in
-          let q : a ≡ n = cc in
-          omega (arith, leb-true a most ((and-eq-true_iff (leb 2 a) (leb a most)).0 t).1))
-          (λ f.
-          let g : counts.Refused CountOutOfLimits ≡ counts.Value n next = rw f at e in
-          let z : ◌≡◌ {A = ℕ} 0 1 = cc in
-          absurd (omega arith))
-      go (listed (a ∷ b ∷ vs) after) e = let z : ◌≡◌ {A = ℕ} 0 1 = cc in absurd (omega arith)
+  pub count_steps : (l : Listed) → count_of most l ≡ one_by (numbers_of l) (Err BadLayout) within
+  unfolding count_of
+  count_steps l = one_counted (Err BadLayout) within l
 
 -- ---- the edge lines
 
 abbrev pub Joins : ℕ → ℕ → ℕ → Bool
 Joins n a b = ltb a n && ltb b n && not (eqb a b)
 
-module _ (text : List ℕ) (n m : ℕ) (whole : Parsed) (at k : ℕ) (tails heads : List ℕ) (rest : edge_lines (m - k) text (sheet_of n m tails heads no_nexts) k at ≡ whole) where
-  pub edges_over : m ≤ k → ring_lines n text (sheet_of n m tails heads no_nexts) 0 at ≡ whole
+module _ (text : List ℕ) (s : Sheet) (m k at : ℕ) where
+  pub edges_over : m ≤ k → edge_lines (m - k) text s k at ≡ ring_lines s.vertices text s 0 at
   unfolding edge_lines
-  edges_over h = let z : m - k ≡ 0 = omega arith in rw z at rest
+  edges_over h = let z : m - k ≡ 0 = omega arith in rw z refl
 
-  module _ (more : k < m) where
-    pub edge_line_bad : pair_of (line_at wire_key text at) ≡ Other → Err BadLayout ≡ whole
-    unfolding edge_lines
-    edge_line_bad e =
-        let z : m - k ≡ suc (m - (k + 1)) = omega arith in
-        sym (two_not (Err BadLayout) _ (line_at wire_key text at) e) ∙ rw z at rest
+  abbrev edge_by : ℕ → ℕ → ℕ → Parsed
+  edge_by a b next = pick (Joins s.vertices a b) (λ _. edge_lines (m - (k + 1)) text (with_edge s k a b) (k + 1) next) (λ _. Err BadEdge)
 
-    module _ (a b next : ℕ) (e : pair_of (line_at wire_key text at) ≡ Two a b next) where
-      pub edge_bad : Joins n a b ≡ false → Err BadEdge ≡ whole
-      unfolding edge_lines
-      edge_bad test =
-          let z : m - k ≡ suc (m - (k + 1)) = omega arith in
-          rw test at (sym (two_is (Err BadLayout) _ (line_at wire_key text at) a b next e) ∙ rw z at rest)
+  pub edges_step : k < m → edge_lines (m - k) text s k at ≡ two_by (pair_of (line_at wire_key text at)) (Err BadLayout) edge_by
+  unfolding edge_lines
+  edges_step h = let z : m - k ≡ suc (m - (k + 1)) = omega arith in rw z (two_counted (Err BadLayout) edge_by (line_at wire_key text at))
 
-      pub edge_good : Joins n a b ≡ true → edge_lines (m - (k + 1)) text (sheet_of n m (set tails k a) (set heads k b) no_nexts) (k + 1) next ≡ whole
-      unfolding edge_lines with_edge
-      edge_good test =
-          let z : m - k ≡ suc (m - (k + 1)) = omega arith in
-          rw test at (sym (two_is (Err BadLayout) _ (line_at wire_key text at) a b next e) ∙ rw z at rest)
+  pub edges_more : k < m → (a b next : ℕ) → Some (a, b, next) ≡ pair_of (line_at wire_key text at) → Joins s.vertices a b ≡ true
+      → edge_lines (m - (k + 1)) text (with_edge s k a b) (k + 1) next ≡ edge_lines (m - k) text s k at
+  edges_more h a b next e j = sym (edges_step h ∙ rw (← e, j) refl)
 
 -- one edge more
 pub apart_more : (k a b : ℕ) (tails heads : List ℕ) → k < length tails → k < length heads → a ≢ b → Apart k tails heads → Apart (k + 1) (set tails k a) (set heads k b)
@@ -132,34 +60,6 @@ apart_more k a b tails heads ht hh n old i l =
     by_cases (ℕ_discrete i k)
     (λ e. rw (e, get_or-set_same tails k a 0 ht, get_or-set_same heads k b 0 hh) n)
     (λ e. rw (get_or-set_other tails k i a 0 e, get_or-set_other heads k i b 0 e) (old i (omega arith)))
-
-module _ (text : List ℕ) (n m start : ℕ) (tails₀ heads₀ tails heads degrees : List ℕ) where
-  refused_next : (a : Refusal) (at : ℕ) → Refused a ≡ Next at → ⊥
-  refused_next a at q = let z : ◌≡◌ {A = ℕ} 0 1 = cc in omega arith
-
-  pub edges_refused : (a : Refusal) → Err a ≡ edge_lines m text (sheet_of n m tails₀ heads₀ no_nexts) 0 start
-      → EdgesRead text n m start tails₀ heads₀ tails heads degrees (Refused a)
-  unfolding after_edges
-  edges_refused a e = record { rest = e; apart = λ at q. absurd (refused_next a at q); counted = λ at q. absurd (refused_next a at q) }
-
-  pub edges_next : (at : ℕ) → ring_lines n text (sheet_of n m tails heads no_nexts) 0 at ≡ edge_lines m text (sheet_of n m tails₀ heads₀ no_nexts) 0 start
-      → Apart m tails heads → Counted m tails heads degrees → EdgesRead text n m start tails₀ heads₀ tails heads degrees (Next at)
-  unfolding after_edges
-  edges_next at e j d = record { rest = e; apart = λ a q. j; counted = λ a q. d }
-
--- what load goes on to
-module _ (text : List ℕ) (n m : ℕ) (tails heads : List ℕ) (r : Step) (whole : Parsed) (rest : after_edges text n m tails heads r ≡ whole) where
-  pub after_edges_refused : (a : Refusal) → r ≡ Refused a → Err a ≡ whole
-  unfolding after_edges
-  after_edges_refused a e = rw e at rest
-
-  pub after_edges_next : (at : ℕ) → r ≡ Next at → ring_lines n text (sheet_of n m tails heads no_nexts) 0 at ≡ whole
-  unfolding after_edges
-  after_edges_next at e = rw e at rest
-
-pub no_edges : (n m : ℕ) → sheet_of n m (replicate 256 0) (replicate 256 0) no_nexts ≡ empty_sheet n m
-unfolding no_nexts empty_sheet
-no_edges n m = refl
 
 -- ---- the ring lines
 
@@ -169,68 +69,92 @@ zeros_at zero k = refl
 zeros_at (suc n) zero = refl
 zeros_at (suc n) (suc k) = zeros_at n k
 
-module _ (n m : ℕ) (tails heads nexts₀ : List ℕ) (v : ℕ) where
-  link_from_law : (f w : ℕ) (ws nexts : List ℕ) → linked_from tails v (dart_of tails f v) (dart_of tails w v) ws nexts ≡ link_from (sheet_of n m tails heads nexts₀) v f (w ∷ ws) nexts
+module _ (s : Sheet) (v : ℕ) where
+  link_from_law : (f w : ℕ) (ws nexts : List ℕ) → linked_from s.tails v (dart_of s.tails f v) (dart_of s.tails w v) ws nexts ≡ link_from s v f (w ∷ ws) nexts
   unfolding linked_from link_from dart_of
   link_from_law f w [] nexts = refl
-  link_from_law f w (x ∷ ws) nexts = link_from_law f x ws (set nexts (dart_of tails w v) (dart_of tails x v))
+  link_from_law f w (x ∷ ws) nexts = link_from_law f x ws (set nexts (dart_of s.tails w v) (dart_of s.tails x v))
 
-  link_ring_law : (ws nexts : List ℕ) → linked tails v ws nexts ≡ link_ring (sheet_of n m tails heads nexts₀) v ws nexts
+  link_ring_law : (ws nexts : List ℕ) → linked s.tails v ws nexts ≡ link_ring s v ws nexts
   unfolding linked link_from
   link_ring_law [] nexts = refl
   link_ring_law (w ∷ ws) nexts = link_from_law w w ws nexts
 
-module _ (text : List ℕ) (n m : ℕ) (tails heads : List ℕ) (whole : Parsed) (at v : ℕ) (nexts : List ℕ)
-    (rest : ring_lines (n - v) text (sheet_of n m tails heads nexts) v at ≡ whole) where
-  pub rings_over : n ≤ v → judged (sheet_of n m tails heads nexts) at ≡ whole
+module _ (text : List ℕ) (s : Sheet) (nexts : List ℕ) (v at : ℕ) where
+  pub rings_over : s.vertices ≤ v → ring_lines (s.vertices - v) text (with_nexts s nexts) v at ≡ judged (with_nexts s nexts) at
   unfolding ring_lines
-  rings_over h = let z : n - v ≡ 0 = omega arith in rw z at rest
+  rings_over h = let z : s.vertices - v ≡ 0 = omega arith in rw z refl
 
   -- a line that was read: what load goes on to
-  go_line : Ringed → Parsed
-  go_line (ringed next after) = ring_lines (n - (v + 1)) text (sheet_of n m tails heads after) (v + 1) next
-  go_line (unringed a) = Err a
+  abbrev pub line_by : Ringed → Parsed
+  line_by (ringed next after) = ring_lines (s.vertices - (v + 1)) text (with_nexts s after) (v + 1) next
+  line_by (unringed a) = Err a
 
-  module _ (more : v < n) (seen : List ℕ) (room : m ≤ length seen) (clear : (k : ℕ) → get_or seen k 0 ≤ v) (degree : ℕ) (d : degree ≡ count (λ k. touches_of tails heads k v) m) where
-    misfit : (ws : List ℕ) → is_rotation (sheet_of n m tails heads nexts) v ws ≡ false → (fit_from m tails heads v seen ws && eqb (0 + length ws) degree) ≡ false
+  module _ (more : v < s.vertices) (seen : List ℕ) (room : s.edges ≤ length seen) (clear : (k : ℕ) → get_or seen k 0 ≤ v) (degree : ℕ) (d : degree ≡ count (λ k. touches_of s.tails s.heads k v) s.edges) where
+    misfit : (ws : List ℕ) → is_rotation (with_nexts s nexts) v ws ≡ false → (fit_from s v seen ws && eqb (0 + length ws) degree) ≡ false
     misfit ws f =
-        by_bool (fit_from m tails heads v seen ws)
+        by_bool (fit_from s v seen ws)
         (λ t.
         by_bool (eqb (0 + length ws) degree)
-        (λ e. absurd (false≢true (sym f ∙ rotation_if n m tails heads nexts v ws seen room clear degree d (omega (arith, eqb-true (0 + length ws) degree e)) t))) (λ e. rw (t, e) refl))
+        (λ e. absurd (false≢true (sym f ∙ rotation_if s nexts v ws seen room clear degree d (omega (arith, eqb-true (0 + length ws) degree e)) t))) (λ e. rw (t, e) refl))
         (λ u. rw u refl)
 
-    line_is : go_line (ring_from degree m tails heads v 0 0 0 seen nexts (line_at around_key text at)) ≡ whole
-    unfolding go_line ring_from linked_on ring_lines with_some with_nexts
-    line_is = go (line_at around_key text at) refl
-      where
-        go : (l : Listed) → line_at around_key text at ≡ l → go_line (ring_from degree m tails heads v 0 0 0 seen nexts l) ≡ whole
-        go unlisted e =
-            let z : n - v ≡ suc (n - (v + 1)) = omega arith in
-            rw (z, e) at rest
-        go (listed ws next) e =
-            let z : n - v ≡ suc (n - (v + 1)) = omega arith in
-            by_bool (is_rotation (sheet_of n m tails heads nexts) v ws)
-            (λ t.
-            rw (rotation_fits n m tails heads nexts v ws seen room clear degree d t, eq-eqb (0 + length ws) degree (zero-add (length ws) ∙ rotation_length n m tails heads nexts v ws seen room clear degree d t), link_ring_law n m tails heads nexts v ws nexts) (rw (z, e, t) at rest))
-            (λ f. rw (misfit ws f) (rw (z, e, f) at rest))
+    line_is : (l : Listed) → with_some l (Err BadLayout) (λ ws next. pick (is_rotation (with_nexts s nexts) v ws) (λ _. ring_lines (s.vertices - (v + 1)) text (with_nexts (with_nexts s nexts) (link_ring (with_nexts s nexts) v ws nexts)) (v + 1) next) (λ _. Err BadRotation))
+        ≡ line_by (ring_from degree s v 0 0 0 seen nexts l)
+    unfolding ring_from linked_on with_some with_nexts link_from
+    line_is unlisted = refl
+    line_is (listed ws next) =
+        by_bool (is_rotation (with_nexts s nexts) v ws)
+        (λ t. rw (t, rotation_fits s nexts v ws seen room clear degree d t, eq-eqb (0 + length ws) degree (zero-add (length ws) ∙ rotation_length s nexts v ws seen room clear degree d t), link_ring_law s v ws nexts) refl)
+        (λ f. rw (f, misfit ws f) refl)
 
-    module _ (seen' after : List ℕ) (r : Step) (read : RingRead text at degree m tails heads v seen nexts seen' after r) where
-      pub ring_line_refused : (a : Refusal) → r ≡ Refused a → Err a ≡ whole
-      unfolding go_line ringed_by
-      ring_line_refused a e = rw e at (ap go_line read.rest ∙ line_is)
+    pub rings_step : ring_lines (s.vertices - v) text (with_nexts s nexts) v at ≡ line_by (ring_from degree s v 0 0 0 seen nexts (line_at around_key text at))
+    unfolding ring_lines with_nexts
+    rings_step = let z : s.vertices - v ≡ suc (s.vertices - (v + 1)) = omega arith in rw z (line_is (line_at around_key text at))
 
-      pub ring_line_next : (next : ℕ) → r ≡ Next next → ring_lines (n - (v + 1)) text (sheet_of n m tails heads after) (v + 1) next ≡ whole
-      unfolding go_line ringed_by
-      ring_line_next next e = rw e at (ap go_line read.rest ∙ line_is)
+-- ---- the whole sheet
 
--- what load goes on to
-module _ (n m : ℕ) (tails heads nexts : List ℕ) (r : Step) (whole : Parsed) (rest : after_rings n m tails heads nexts r ≡ whole) where
-  pub after_rings_refused : (a : Refusal) → r ≡ Refused a → Err a ≡ whole
-  unfolding after_rings
-  after_rings_refused a e = rw e at rest
+-- what is judged, by the answer
+abbrev judged_by : Sheet → ℕ → Result (Unit {0}) Refusal → Parsed
+judged_by s at (Ok _) = Ok (record { sheet = s; taken = at })
+judged_by s at (Err r) = Err r
 
-  pub after_rings_next : (at : ℕ) → r ≡ Next at → judged (sheet_of n m tails heads nexts) at ≡ whole
-  unfolding after_rings
-  after_rings_next at e = rw e at rest
+pub judged_steps : (s : Sheet) (at : ℕ) → judged s at ≡ judged_by s at (judge s)
+unfolding judged answering
+judged_steps s at = go (judge s)
+  where
+    go : (a : Result (Unit {0}) Refusal) → answering a (λ _. record { sheet = s; taken = at }) ≡ judged_by s at a
+    go (Ok u) = refl
+    go (Err r) = refl
 
+-- what load goes on to after a count
+module _ (good : ℕ → ℕ → Parsed) where
+  abbrev pub count_by : Result (ℕ × ℕ) Refusal → Parsed
+  count_by (Ok (n, next)) = good n next
+  count_by (Err a) = Err a
+
+  count_on : (most : ℕ) (l : Listed) → with_count l most good ≡ count_by (count_of most l)
+  unfolding with_count count_of with_one
+  count_on most unlisted = refl
+  count_on most (listed [] next) = refl
+  count_on most (listed (a ∷ []) next) = by_bool (leb 2 a && leb a most) (λ t. rw t refl) (λ f. rw f refl)
+  count_on most (listed (a ∷ b ∷ vs) next) = refl
+
+abbrev edges_of : List ℕ → ℕ → ℕ → ℕ → Parsed
+edges_of text n m after = edge_lines m text (empty_sheet n m) 0 after
+
+pub wires_steps : (text : List ℕ) (n next : ℕ) → with_count (line_at wires_key text next) 256 (edges_of text n) ≡ count_by (edges_of text n) (count_of 256 (line_at wires_key text next))
+wires_steps text n next = count_on (edges_of text n) 256 (line_at wires_key text next)
+
+abbrev wires_of : List ℕ → ℕ → ℕ → Parsed
+wires_of text n next = with_count (line_at wires_key text next) 256 (edges_of text n)
+
+pub bars_steps : (text : List ℕ) → parse text ≡ count_by (wires_of text) (count_of 128 (line_at bars_key text 0))
+unfolding parse
+bars_steps text = count_on (wires_of text) 128 (line_at bars_key text 0)
+
+pub ruleset edge_turns = (edges_over, edges_step, apart_more)
+
+pub ruleset ring_turns = (rings_over, rings_step, zeros_at)
+
+pub ruleset load_turns = (bars_steps, wires_steps, judged_steps)

@@ -1,33 +1,21 @@
 -- Load in the steps of its functions, over the record's arrays.
-use Rattle.std.specs.Prelude.{ℕ, ◌+◌, ◌≤◌, ◌<◌, ◌≡◌, ◌≢◌, Bool, true, false, cond, not, ◌&&◌, List, [], ◌∷◌, eqb, ltb, leb, get_or, set, length, replicate, Err}
+use Rattle.std.specs.Prelude.{ℕ, ◌+◌, ◌<◌, ◌≡◌, ◌≢◌, Bool, true, false, cond, not, ◌&&◌, List, [], ◌∷◌, Some, None, Result, Ok, Err, eqb, ltb, leb, get_or, set, length}
 use Rattle.clauses.specs.Darts.{touches_of, dart_of}
 use Rattle.counting.specs.Counts.{count}
-use Rattle.text.specs.declared.Number.{Number}
-use Rattle.text.specs.declared.Number.TheVariants.{Value, Missing}
 use Rattle.counting.specs.Choice.{pick}
-use Rattle.text.specs.Reading.{Listed, numbers_at, line_at}
+use Rattle.text.specs.Reading.{Number, line_end_at, Listed, numbers_at, closed}
 use Rattle.text.specs.Reading.Listed.{listed, unlisted}
 use Rattle.text.specs.Shapes.{with_one}
-use Rattle.sheet.specs.Darts.{sheet_of}
+use Rattle.sheet.specs.declared.Sheet.{Sheet}
 use Rattle.answers.specs.declared.Refusal.{Refusal}
 use Rattle.answers.specs.declared.Refusal.TheVariants.{BadLayout, CountOutOfLimits, BadRotation}
-use Rattle.load.specs.declared.lines.Count.{Count}
-use Rattle.load.specs.declared.lines.Count.TheVariants as counts
-use Rattle.load.specs.declared.lines.Step.{Step}
-use Rattle.load.specs.declared.lines.Step.TheVariants.{Next, Refused}
-use Rattle.load.specs.declared.around.Entry.{Entry}
-use Rattle.load.specs.declared.around.Entry.TheVariants.{Edge, Unfit, Absent}
-use Rattle.text.specs.Keys.{around_key}
-use Rattle.load.specs.Load.{Parsed, judged, ring_lines, edge_lines}
-
-unfoldable pub no_nexts : List ℕ
-no_nexts = replicate 512 0
+use Rattle.load.specs.Load.{Parsed, judged, ring_lines}
 
 -- ---- the count lines: one number, from 2 to `most`
 
-unfoldable pub count_of : ℕ → Listed → Count
+unfoldable pub count_of : ℕ → Listed → Result (ℕ × ℕ) Refusal
 count_of most line =
-    with_one line (counts.Refused BadLayout) (λ n next. pick (leb 2 n && leb n most) (λ _. counts.Value n next) (λ _. counts.Refused CountOutOfLimits))
+    with_one line (Err BadLayout) (λ n next. pick (leb 2 n && leb n most) (λ _. Ok (n, next)) (λ _. Err CountOutOfLimits))
 
 -- ---- the edge lines
 
@@ -44,36 +32,11 @@ unfoldable pub one_more : ℕ → List ℕ → List ℕ
 one_more v degrees = set degrees v (get_or degrees v 0 + 1)
 
 -- what load goes on to
-unfoldable pub after_edges : List ℕ → ℕ → ℕ → List ℕ → List ℕ → Step → Parsed
-after_edges text n m tails heads (Next at) = ring_lines n text (sheet_of n m tails heads no_nexts) 0 at
-after_edges text n m tails heads (Refused a) = Err a
-
-pub record EdgesRead (text : List ℕ) (n m start : ℕ) (tails₀ heads₀ tails heads degrees : List ℕ) (r : Step) : Type 0 where
-  pub rest : after_edges text n m tails heads r ≡ edge_lines m text (sheet_of n m tails₀ heads₀ no_nexts) 0 start
-  pub apart : (at : ℕ) → r ≡ Next at → Apart m tails heads
-  pub counted : (at : ℕ) → r ≡ Next at → Counted m tails heads degrees
+abbrev pub after_edges : List ℕ → Sheet → Result ℕ Refusal → Parsed
+after_edges text s (Ok at) = ring_lines s.vertices text s 0 at
+after_edges text s (Err a) = Err a
 
 -- ---- the ring lines
-
--- edge w may stand on v's line: it is one of m, has an end at v, and does not bear the mark v + 1 of this line
-unfoldable pub fits_of : ℕ → List ℕ → List ℕ → ℕ → List ℕ → ℕ → Bool
-fits_of m tails heads v seen w = ltb w m && (touches_of tails heads w v && not (eqb (get_or seen w 0) (v + 1)))
-
--- the edge that a number names: its dart and the place after it, or one that may not stand there; and the marks from then on
-unfoldable pub edge_of : ℕ → List ℕ → List ℕ → ℕ → List ℕ → Number → Entry
-edge_of m tails heads v seen Missing = Absent
-edge_of m tails heads v seen (Value w next) = cond (fits_of m tails heads v seen w) (Edge (dart_of tails w v) next) (Unfit next)
-
-unfoldable pub marks_of : ℕ → List ℕ → List ℕ → ℕ → List ℕ → Number → List ℕ
-marks_of m tails heads v seen Missing = seen
-marks_of m tails heads v seen (Value w next) = cond (fits_of m tails heads v seen w) (set seen w (v + 1)) seen
-
--- one dart more behind `count` others: the first of all, and the last one's link to it
-unfoldable pub first_of : (count first dart : ℕ) → ℕ
-first_of count first dart = cond (eqb count 0) dart first
-
-unfoldable pub link_of : (count last dart : ℕ) → List ℕ → List ℕ
-link_of count last dart nexts = cond (eqb count 0) nexts (set nexts last dart)
 
 -- the numbers that follow one that ends at a place: a comma and more, or none
 unfoldable pub rest_at : List ℕ → ℕ → Listed
@@ -87,10 +50,23 @@ is_listed unlisted = false
 unfoldable pub refusal_of : Listed → Refusal
 refusal_of l = cond (is_listed l) BadRotation BadLayout
 
+-- edge w may stand on v's line: it is one of the sheet's, has an end at v, and does not bear the mark v + 1 of this line
+unfoldable pub fits_of : Sheet → ℕ → List ℕ → ℕ → Bool
+fits_of s v seen w = ltb w s.edges && (touches_of s.tails s.heads w v && not (eqb (get_or seen w 0) (v + 1)))
+
+-- the edge that a number names: its dart and the place after it, or how the line is refused; and the marks from then on
+unfoldable pub edge_of : List ℕ → Sheet → ℕ → List ℕ → Number → Result (ℕ × ℕ) Refusal
+edge_of text s v seen None = Err BadLayout
+edge_of text s v seen (Some (w, next)) = cond (fits_of s v seen w) (Ok (dart_of s.tails w v, next)) (Err (refusal_of (closed text (rest_at text next))))
+
+unfoldable pub marks_of : Sheet → ℕ → List ℕ → Number → List ℕ
+marks_of s v seen None = seen
+marks_of s v seen (Some (w, next)) = cond (fits_of s v seen w) (set seen w (v + 1)) seen
+
 -- each of the edges ws, marked in their order, may stand on v's line
-unfoldable pub fit_from : ℕ → List ℕ → List ℕ → ℕ → List ℕ → List ℕ → Bool
-fit_from m tails heads v seen [] = true
-fit_from m tails heads v seen (w ∷ ws) = fits_of m tails heads v seen w && fit_from m tails heads v (set seen w (v + 1)) ws
+unfoldable pub fit_from : Sheet → ℕ → List ℕ → List ℕ → Bool
+fit_from s v seen [] = true
+fit_from s v seen (w ∷ ws) = fits_of s v seen w && fit_from s v (set seen w (v + 1)) ws
 
 -- v's darts in the order of the list: after `last` the next one's, after the last the first
 unfoldable pub linked_from : List ℕ → ℕ → ℕ → ℕ → List ℕ → List ℕ → List ℕ
@@ -106,34 +82,24 @@ pub data Ringed : Type 0 where
   ringed : ℕ → List ℕ → Ringed
   unringed : Refusal → Ringed
 
-unfoldable pub ringed_by : List ℕ → Step → Ringed
-ringed_by nexts (Next at) = ringed at nexts
-ringed_by nexts (Refused a) = unringed a
+abbrev pub ringed_by : List ℕ → Result ℕ Refusal → Ringed
+ringed_by nexts (Ok at) = ringed at nexts
+ringed_by nexts (Err a) = unringed a
 
--- after all the numbers: `count` edges stood there, and v has `degree`
-unfoldable pub ring_end : (degree count first last : ℕ) → List ℕ → Listed → Ringed
-ring_end degree count first last nexts unlisted = unringed BadLayout
-ring_end degree count first last nexts (listed ws next) = cond (eqb count degree) (ringed next (set nexts last first)) (unringed BadRotation)
+-- the line's end after all the numbers: `count` edges stood there, and v has `degree`
+abbrev pub end_of : List ℕ → (at count degree : ℕ) → Result ℕ Refusal
+end_of text at count degree = cond (eqb (line_end_at text at) 0) (Err BadLayout) (cond (eqb count degree) (Ok (at + line_end_at text at)) (Err BadRotation))
 
 -- v's darts linked in the order of the list, behind `count` others
 unfoldable pub linked_on : List ℕ → ℕ → (count first last : ℕ) → List ℕ → List ℕ → List ℕ
 linked_on tails v count first last ws nexts = cond (eqb count 0) (linked tails v ws nexts) (linked_from tails v first last ws nexts)
 
 -- what v's line comes to by the rest of it, where `count` edges stood there before: shape first
-unfoldable pub ring_from : (degree m : ℕ) (tails heads : List ℕ) (v count first last : ℕ) (seen nexts : List ℕ) → Listed → Ringed
-ring_from degree m tails heads v count first last seen nexts unlisted = unringed BadLayout
-ring_from degree m tails heads v count first last seen nexts (listed ws next) =
-    cond (fit_from m tails heads v seen ws && eqb (count + length ws) degree) (ringed next (linked_on tails v count first last ws nexts)) (unringed BadRotation)
+unfoldable pub ring_from : ℕ → Sheet → (v count first last : ℕ) (seen nexts : List ℕ) → Listed → Ringed
+ring_from degree s v count first last seen nexts unlisted = unringed BadLayout
+ring_from degree s v count first last seen nexts (listed ws next) =
+    cond (fit_from s v seen ws && eqb (count + length ws) degree) (ringed next (linked_on s.tails v count first last ws nexts)) (unringed BadRotation)
 
--- v's line at a place was read: what it comes to, and no mark is above this line's
-pub record RingRead (text : List ℕ) (at degree m : ℕ) (tails heads : List ℕ) (v : ℕ) (seen₀ nexts₀ seen nexts : List ℕ) (r : Step) : Type 0 where
-  pub rest : ringed_by nexts r ≡ ring_from degree m tails heads v 0 0 0 seen₀ nexts₀ (line_at around_key text at)
-  pub marks : (k : ℕ) → get_or seen₀ k 0 ≤ v + 1 → get_or seen k 0 ≤ v + 1
-  pub size : length seen ≡ length seen₀
-
-unfoldable pub after_rings : ℕ → ℕ → List ℕ → List ℕ → List ℕ → Step → Parsed
-after_rings n m tails heads nexts (Next at) = judged (sheet_of n m tails heads nexts) at
-after_rings n m tails heads nexts (Refused a) = Err a
-
-abbrev pub RingsRead : List ℕ → ℕ → ℕ → ℕ → List ℕ → List ℕ → List ℕ → List ℕ → Step → Type 0
-RingsRead text n m start tails heads nexts₀ nexts r = after_rings n m tails heads nexts r ≡ ring_lines n text (sheet_of n m tails heads nexts₀) 0 start
+abbrev pub after_rings : Sheet → Result ℕ Refusal → Parsed
+after_rings s (Ok at) = judged s at
+after_rings s (Err a) = Err a

@@ -1,202 +1,147 @@
 // The lines `around=`: the edges of each vertex clockwise, read into the next-darts.
-ghost use Rattle.std.specs.Prelude.{◌≡◌, ◌≤◌, ◌<◌, []};
-ghost use Rattle.text.specs.Reading.{number_at, listed, closed};
-ghost use Rattle.load.specs.Inner.{Apart, Counted, fits_of, edge_of, marks_of, first_of, link_of, is_listed, refusal_of, rest_at, ringed_by, ring_end, RingRead, RingsRead};
+ghost use Rattle.std.specs.Prelude.{ℕ, ◌≡◌, ◌+◌, ◌^◌, ◌≤◌, ◌<◌, [], IsTrue, IfOk, get_or, length};
+ghost use Rattle.text.specs.Reading.{number_at, line_at, listed, closed};
+ghost use Rattle.text.specs.Keys.{around_key};
+ghost use Rattle.load.specs.Load.{with_nexts, ring_lines};
+ghost use Rattle.load.specs.Inner.{Apart, Counted, fits_of, edge_of, marks_of, is_listed, refusal_of, rest_at, end_of, ringed_by, ring_from, after_rings};
 
-use crate::lines::Step;
 use answers::Refusal;
 use clauses::dart_at;
-use counting::{bit, wide};
-use text::Number;
-
-// A number of a line: the dart of an edge at the line's vertex and the place after the number;
-// the place after one of an edge that may not stand there; or no number.
-#[derive(Clone, Copy)]
-enum Entry {
-    Edge(usize, usize),
-    Unfit(usize),
-    Absent,
-}
+use sheet::Sheet;
 
 // Whether edge w may stand on v's line: it has an end there, and did not stand on the line before.
 // Which of its two ends that is takes no branch, since nothing foretells it.
-fn fits(
-    w: usize,
-    v: usize,
-    m: usize,
-    tails: &[u16; 256],
-    heads: &[u16; 256],
-    seen: &[u16; 256],
-) -> bool
-    requires { (m ≤ 256) × (v < 128) × Apart m tails.now heads.now }
-    ensures { result ≡ fits_of m tails.now heads.now v seen.now w }
+#[tactic(auto, using(crate::proofs::Walking::fits_steps))]
+fn fits(w: usize, v: usize, sheet: &Sheet, seen: &[u16; 256]) -> bool
+    requires { (sheet.now.edges ≤ 256) × (v < 128) × Apart sheet.now.edges sheet.now.tails sheet.now.heads }
+    ensures fit { result ≡ fits_of sheet.now v seen.now w }
+    ensures below { IsTrue result → w < sheet.now.edges }
 {
-    if m <= w {
+    if sheet.edges <= w {
         return false;
     }
-    if wide(seen[w]) == v + 1 {
+    if usize::from(seen[w]) == v + 1 {
         return false;
     }
-    let tail = bit(wide(tails[w]) == v);
-    let head = bit(wide(heads[w]) == v);
+    let tail = usize::from(usize::from(sheet.tails[w]) == v);
+    let head = usize::from(usize::from(sheet.heads[w]) == v);
     tail + head == 1
 }
 
-// The edge whose number stands at a place of v's line, marked as seen on it if it may stand there.
+// The edge whose number stands at a place of v's line, marked as seen on it if it may stand there:
+// its dart at v, and the place after the number.
+#[tactic(auto, unfolding(crate::specs::Inner::edge_of, crate::specs::Inner::marks_of))]
 fn edge_at(
     text: &[u8],
     at: usize,
     v: usize,
-    m: usize,
-    tails: &[u16; 256],
-    heads: &[u16; 256],
+    sheet: &Sheet,
     seen: &mut [u16; 256],
-) -> Entry
-    requires { (m ≤ 256) × (v < 128) × Apart m tails.now heads.now }
-    ensures { (result ≡ edge_of m tails.now heads.now v seen.old (number_at text.now at))
-        × (seen.new ≡ marks_of m tails.now heads.now v seen.old (number_at text.now at)) }
+) -> Result<(usize, usize), Refusal>
+    requires { (sheet.now.edges ≤ 256) × (v < 128) × Apart sheet.now.edges sheet.now.tails sheet.now.heads }
+    ensures edge { result ≡ edge_of text.now sheet.now v seen.old (number_at text.now at) }
+    ensures marks { seen.new ≡ marks_of sheet.now v seen.old (number_at text.now at) }
+    ensures within { IfOk result (λ r. (r.0 < 512) × (at < r.1) × (r.1 ≤ length text.now)) }
 {
-    let read = text::number_at(text, at);
-    match read {
-        Number::Missing => Entry::Absent,
-        Number::Value(value, next) => {
-            let w = wide(value);
-            if !fits(w, v, m, tails, heads, seen) {
-                return Entry::Unfit(next);
-            }
-            seen[w] = (v + 1) as u16;
-            Entry::Edge(wide(dart_at(tails, w, v)), next)
-        }
+    let (number, next) = text::number_at(text, at).ok_or(Refusal::BadLayout)?;
+    let w = usize::from(number);
+    if !fits(w, v, sheet, seen) {
+        return Err(unfit(text, next));
     }
-}
-
-// Links a dart behind the last of `count` darts, and tells the first of them all.
-fn link(count: usize, first: usize, last: usize, dart: usize, nexts: &mut [u16; 512]) -> usize
-    requires { (last < 512) × (dart < 512) }
-    ensures { (result ≡ first_of count first dart) × (nexts.new ≡ link_of count last dart nexts.old) }
-{
-    if count == 0 {
-        return dart;
-    }
-    nexts[last] = dart as u16;
-    first
+    seen[w] = (v + 1) as u16;
+    Ok((usize::from(dart_at(&sheet.tails, w, v)), next))
 }
 
 // Whether the rest of a line has its shape from the end of a number on: a comma and more numbers, or none, and the line's end.
+#[tactic(auto, using(crate::proofs::Walking::shape_steps))]
 fn rest_shaped(text: &[u8], at: usize) -> bool
     ensures { result ≡ is_listed (closed text.now (rest_at text.now at)) }
 {
-    if text::byte(text, at) != 44 {
-        return text::line_end(text, at) != 0;
+    if text::byte(text, at) != b',' {
+        return text::line_end(text, at).is_some();
     }
-    let read = text::numbers_at(text, at + 1);
-    if !read.found {
+    let Some(read) = text::numbers_at(text, at + 1) else {
         return false;
-    }
-    text::line_end(text, read.next) != 0
+    };
+    text::line_end(text, read.next).is_some()
 }
 
 // The refusal of a line with an edge that may not stand there, whose number ends at a place: shape comes first.
+#[tactic(auto, unfolding(crate::specs::Inner::refusal_of))]
 fn unfit(text: &[u8], at: usize) -> Refusal
     ensures { result ≡ refusal_of (closed text.now (rest_at text.now at)) }
 {
-    if !rest_shaped(text, at) {
-        return Refusal::BadLayout;
+    if rest_shaped(text, at) {
+        Refusal::BadRotation
+    } else {
+        Refusal::BadLayout
     }
-    Refusal::BadRotation
 }
 
-// The end of a line of `count` edges of v, which has `degree` of them: the last dart is linked to the first.
-fn ring_end(
-    text: &[u8],
-    at: usize,
-    degree: usize,
-    count: usize,
-    first: usize,
-    last: usize,
-    nexts: &mut [u16; 512],
-) -> Step
-    requires { (first < 512) × (last < 512) }
-    ensures { ringed_by nexts.new result ≡ ring_end degree count first last nexts.old (closed text.now (listed [] at)) }
+// The place after the end of a line with `count` edges of a vertex that has `degree`: shape comes first.
+fn ring_end(text: &[u8], at: usize, count: usize, degree: usize) -> Result<usize, Refusal>
+    ensures { result ≡ end_of text.now at count degree }
 {
-    let end = text::line_end(text, at);
-    if end == 0 {
-        return Step::Refused(Refusal::BadLayout);
-    }
+    let after = text::line_end(text, at).ok_or(Refusal::BadLayout)?;
     if count != degree {
-        return Step::Refused(Refusal::BadRotation);
+        return Err(Refusal::BadRotation);
     }
-    nexts[last] = first as u16;
-    Step::Next(at + end)
+    Ok(after)
 }
 
-// The line of v, which has `degree` edges: each number is an edge of v that did not stand there before, and its dart is linked.
+// The line of v, which has `degree` edges: each number is an edge of v that did not stand there before, and its dart
+// is linked behind the last one, the last of all to the first.
+#[tactic(auto, using(crate::proofs::Walking::ring_steps))]
 fn ring_line(
     text: &[u8],
     start: usize,
     degree: usize,
     v: usize,
-    m: usize,
-    tails: &[u16; 256],
-    heads: &[u16; 256],
+    sheet: &Sheet,
     seen: &mut [u16; 256],
     nexts: &mut [u16; 512],
-) -> Step
-    requires { (m ≤ 256) × (v < 128) × Apart m tails.now heads.now }
-    ensures { RingRead text.now start degree m tails.now heads.now v seen.old nexts.old seen.new nexts.new result }
+) -> Result<usize, Refusal>
+    requires { (sheet.now.edges ≤ 256) × (v < 128) × Apart sheet.now.edges sheet.now.tails sheet.now.heads }
+    ensures rest { ringed_by nexts.new result ≡ ring_from degree sheet.now v 0 0 0 seen.old nexts.old (line_at around_key text.now start) }
+    ensures marks { (k : ℕ) → get_or seen.old k 0 ≤ v + 1 → get_or seen.new k 0 ≤ v + 1 }
+    ensures size { length seen.new ≡ length seen.old }
 {
     let key = b"around=";
     if !text::starts_with(text, start, key) {
-        return Step::Refused(Refusal::BadLayout);
+        return Err(Refusal::BadLayout);
     }
-    let mut at = start + key.len();
-    let mut count = 0;
-    let mut first = 0;
-    let mut last = 0;
-    loop {
-        let read = edge_at(text, at, v, m, tails, heads, seen);
-        match read {
-            Entry::Absent => return Step::Refused(Refusal::BadLayout),
-            Entry::Unfit(next) => return Step::Refused(unfit(text, next)),
-            Entry::Edge(dart, next) => {
-                let head = link(count, first, last, dart, nexts);
-                first = head;
-                last = dart;
-                count += 1;
-                if text::byte(text, next) != 44 {
-                    return ring_end(text, next, degree, count, first, last, nexts);
-                }
-                at = next + 1;
-            }
-        }
+    let (first, mut at) = edge_at(text, start + key.len(), v, sheet, seen)?;
+    let mut last = first;
+    let mut count = 1;
+    while text::byte(text, at) == b',' {
+        let (dart, next) = edge_at(text, at + 1, v, sheet, seen)?;
+        nexts[last] = dart as u16;
+        last = dart;
+        count += 1;
+        at = next;
     }
+    let after = ring_end(text, at, count, degree)?;
+    nexts[last] = first as u16;
+    Ok(after)
 }
 
-// n lines `around=`, where each vertex has as many edges as `degrees` says.
+// The lines `around=` of a sheet whose edges are read, where each vertex has as many of them as `degrees` says.
+#[tactic(auto, using(crate::proofs::Turns::ring_turns))]
 pub fn ring_lines(
     text: &[u8],
     start: usize,
-    n: usize,
-    m: usize,
-    tails: &[u16; 256],
-    heads: &[u16; 256],
+    sheet: &Sheet,
     degrees: &[u16; 128],
     nexts: &mut [u16; 512],
-) -> Step
-    requires { (n ≤ 128) × (m ≤ 256) × Apart m tails.now heads.now × Counted m tails.now heads.now degrees.now }
-    ensures { RingsRead text.now n m start tails.now heads.now nexts.old nexts.new result }
+) -> Result<usize, Refusal>
+    requires { (sheet.now.vertices ≤ 128) × (sheet.now.edges ≤ 256) × Apart sheet.now.edges sheet.now.tails sheet.now.heads × Counted sheet.now.edges sheet.now.tails sheet.now.heads degrees.now }
+    ensures { after_rings (with_nexts sheet.now nexts.new) result ≡ ring_lines sheet.now.vertices text.now (with_nexts sheet.now nexts.old) 0 start }
 {
     let mut seen = [0u16; 256];
     let mut at = start;
-    let mut v = 0;
-    while v < n {
-        let degree = wide(degrees[v]);
-        let step = ring_line(text, at, degree, v, m, tails, heads, &mut seen, nexts);
-        match step {
-            Step::Refused(refusal) => return Step::Refused(refusal),
-            Step::Next(next) => at = next,
-        }
-        v += 1;
+    for v in 0..sheet.vertices {
+        let degree = usize::from(degrees[v]);
+        at = ring_line(text, at, degree, v, sheet, &mut seen, nexts)?;
     }
-    Step::Next(at)
+    Ok(at)
 }

@@ -1,12 +1,8 @@
 -- A whole line by its key, its numbers and its end. Assumes nothing.
-use Prim.Native.Nat.{ℕ, suc, ◌+◌, ◌≤◌, ◌<◌}
-use mathlib.Core.Path.{◌≡◌, refl, sym, ap, ◌∙◌}
-use mathlib.Core.Bool.{Bool, true, false, cond, ◌&&◌, false≢true}
-use mathlib.Core.List.{List, [], ◌∷◌}
-use native.Mathlib.Omega.{arith}
-use borrow.Author.Tests.{le-leb, lt-leb, eq-eqb, ne_eqb}
-use lib.Dec.{eqb}
-use lib.ListN.{length, drop}
+use Rattle.std.proofs.Common.{◌≡◌, ℕ, suc, ◌+◌, ◌<◌, ◌≤◌, Bool, true, false, cond, ◌&&◌, eqb, leb, List, [], ◌∷◌, length, drop, Some, None, Option, refl, arith, eq-eqb, ne_eqb, le-leb}
+use mathlib.Core.Bool.{false≢true}
+use Rattle.counting.proofs.Iterate.{by_bool}
+use borrow.Author.Tests.{lt-leb}
 use Rattle.text.specs.declared.Numbers.{Numbers}
 use Rattle.text.specs.Reading.{starts_with, Listed, listed, unlisted, line_end_at, numbers_at, closed, last_closed, line_at, last_line_at, numbers_of}
 use Rattle.text.proofs.LineEnds.{line_end_inside}
@@ -59,47 +55,23 @@ module _ (s : List ℕ) where
   keyless true key at k = rw k
   keyless false key at k = rw k
 
--- the answer by the numbers that were read, r, and the bytes of the line end after them, n
-module _ (s : List ℕ) (r : Numbers) where
-  close_none : (last : Bool) (l : Listed) → r ≡ numbers_of l → r.found ≡ false → numbers_of unlisted ≡ numbers_of (closing last s l)
-  unfolding numbers_of
-  close_none last (listed vs next) e f = absurd (false≢true (sym f ∙ ap (λ (x : Numbers). x.found) e))
-  close_none last unlisted e f = ap numbers_of (sym (closing_none s last))
+-- a line by the numbers that were read after its key
+abbrev pub ended_by : Bool → List ℕ → Option Numbers → Option Numbers
+ended_by last s None = None
+ended_by last s (Some r) =
+    cond (last && leb (length s) r.next) (Some r)
+    (cond (eqb (line_end_at s r.next) 0) None (Some (record { count = r.count; values = r.values; next = r.next + line_end_at s r.next })))
 
-  close_over : (l : Listed) → r ≡ numbers_of l → r.found ≡ true → length s ≤ r.next → r ≡ numbers_of (closing true s l)
-  unfolding numbers_of
-  close_over (listed vs next) e f h = e ∙ ap numbers_of (sym (closing_over s vs next (rw (ap (λ (x : Numbers). x.next) e) at h)))
-  close_over unlisted e f h = absurd (false≢true (sym (ap (λ (x : Numbers). x.found) e) ∙ f))
+closing_step : (last : Bool) (s : List ℕ) (l : Listed) → numbers_of (closing last s l) ≡ ended_by last s (numbers_of l)
+unfolding numbers_of closed last_closed
+closing_step false s unlisted = refl
+closing_step true s unlisted = refl
+closing_step false s (listed vs next) = by_bool (eqb (line_end_at s next) 0) (λ z. rw z refl) (λ z. rw z refl)
+closing_step true s (listed vs next) =
+    by_bool (leb (length s) next) (λ h. rw h refl) (λ h. by_bool (eqb (line_end_at s next) 0) (λ z. rw (h, z) refl) (λ z. rw (h, z) refl))
 
-  module _ (last : Bool) (n : ℕ) (en : n ≡ line_end_at s r.next) where
-    close_open : (l : Listed) → r ≡ numbers_of l → r.found ≡ true → n ≡ 0 → (last ≡ true → r.next < length s) → numbers_of unlisted ≡ numbers_of (closing last s l)
-    unfolding numbers_of
-    close_open (listed vs next) e f z h =
-        let q : r.next ≡ next = ap (λ (x : Numbers). x.next) e in
-        ap numbers_of (sym (closing_open s vs next last (λ t. rw q at (h t)) (ap (line_end_at s) (sym q) ∙ sym en ∙ z)))
-    close_open unlisted e f z h = absurd (false≢true (sym (ap (λ (x : Numbers). x.found) e) ∙ f))
-
-    close_ended : (l : Listed) → r ≡ numbers_of l → r.found ≡ true → (n ≡ 0 → ⊥) → record { found = true; count = r.count; values = r.values; next = r.next + n } ≡ numbers_of (closing last s l)
-    unfolding numbers_of
-    close_ended (listed vs next) e f z =
-        let q : n ≡ line_end_at s next = en ∙ ap (λ (x : Numbers). line_end_at s x.next) e in
-        rw (e, q) (ap numbers_of (sym (closing_ended s vs next last (λ y. z (q ∙ y)))))
-    close_ended unlisted e f z = absurd (false≢true (sym (ap (λ (x : Numbers). x.found) e) ∙ f))
-
-module _ (last : Bool) (key s : List ℕ) (at : ℕ) where
-  pub no_key : starts_with key (drop at s) ≡ false → numbers_of unlisted ≡ numbers_of (line_of last key s at)
-  no_key k = ap numbers_of (sym (keyless s last key at k))
-
-  module _ (k : starts_with key (drop at s) ≡ true) (r : Numbers) (e : r ≡ numbers_of (numbers_at s (at + length key))) where
-    pub no_numbers : r.found ≡ false → numbers_of unlisted ≡ numbers_of (line_of last key s at)
-    no_numbers f = close_none s r last _ e f ∙ ap numbers_of (sym (keyed s last key at k))
-
-    module _ (f : r.found ≡ true) (n : ℕ) (en : n ≡ line_end_at s r.next) where
-      pub not_ended : n ≡ 0 → (last ≡ true → r.next < length s) → numbers_of unlisted ≡ numbers_of (line_of last key s at)
-      not_ended z h = close_open s r last n en _ e f z h ∙ ap numbers_of (sym (keyed s last key at k))
-
-      pub text_over : last ≡ true → length s ≤ r.next → r ≡ numbers_of (line_of last key s at)
-      text_over t h = rw t (close_over s r _ e f h ∙ ap numbers_of (sym (keyed s true key at k)))
-
-      pub ended : (n ≡ 0 → ⊥) → record { found = true; count = r.count; values = r.values; next = r.next + n } ≡ numbers_of (line_of last key s at)
-      ended z = close_ended s r last n en _ e f z ∙ ap numbers_of (sym (keyed s last key at k))
+pub line_steps : (last : Bool) (key s : List ℕ) (at : ℕ) → numbers_of (line_of last key s at) ≡ cond (starts_with key (drop at s)) (ended_by last s (numbers_of (numbers_at s (at + length key)))) None
+unfolding numbers_of
+line_steps last key s at = by_bool (starts_with key (drop at s))
+    (λ t. rw (keyed s last key at t, t) (closing_step last s (numbers_at s (at + length key))))
+    (λ f. rw (keyless s last key at f, f) refl)

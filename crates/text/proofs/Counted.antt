@@ -1,64 +1,44 @@
--- A line by how many numbers the reading call counted. Assumes nothing.
-use Prim.Native.Nat.{ℕ}
-use mathlib.Core.Path.{◌≡◌, refl}
-use mathlib.Core.Logic.{◌≢◌}
-use mathlib.Core.List.{[], ◌∷◌}
-use native.Mathlib.Omega.{arith}
-use lib.ListN.{get_or}
-use Rattle.text.specs.declared.Pair.TheVariants.{Two, Other}
+-- A line by the numbers that the reading call counted. Assumes nothing.
+use Rattle.std.proofs.Common.{◌≡◌, ℕ, cond, eqb, [], ◌∷◌, length, get_or, Some, None, Option, refl, arith, ne_eqb}
+use Rattle.text.specs.declared.Numbers.{Numbers}
 use Rattle.text.specs.Reading.{Listed, numbers_of}
 use Rattle.text.specs.Reading.Listed.{listed, unlisted}
 use Rattle.text.specs.Shapes.{with_one, with_two, with_four, pair_of}
 
+abbrev pub one_by : {A : Type 0} → Option Numbers → A → (ℕ → ℕ → A) → A
+one_by None bad good = bad
+one_by (Some r) bad good = cond (eqb r.count 1) (good (get_or r.values 0 0) r.next) bad
+
+abbrev pub two_by : {A : Type 0} → Option (ℕ × ℕ × ℕ) → A → (ℕ → ℕ → ℕ → A) → A
+two_by None bad good = bad
+two_by (Some (a, b, next)) bad good = good a b next
+
+abbrev pub four_by : {A : Type 0} → Option Numbers → A → (ℕ → ℕ → ℕ → ℕ → ℕ → A) → A
+four_by None bad good = bad
+four_by (Some r) bad good = cond (eqb r.count 4) (good (get_or r.values 0 0) (get_or r.values 1 0) (get_or r.values 2 0) (get_or r.values 3 0) r.next) bad
+
 module _ {A : Type 0} (bad : A) where
-  pub one_is : (good : ℕ → ℕ → A) (l : Listed) → (numbers_of l).count ≡ 1 → with_one l bad good ≡ good (get_or (numbers_of l).values 0 0) (numbers_of l).next
+  pub one_counted : (good : ℕ → ℕ → A) (l : Listed) → with_one l bad good ≡ one_by (numbers_of l) bad good
   unfolding numbers_of with_one
-  one_is good unlisted e = absurd (omega arith)
-  one_is good (listed [] next) e = absurd (omega arith)
-  one_is good (listed (a ∷ []) next) e = refl
-  one_is good (listed (a ∷ b ∷ vs) next) e = absurd (omega arith)
+  one_counted good unlisted = refl
+  one_counted good (listed [] next) = refl
+  one_counted good (listed (a ∷ []) next) = refl
+  one_counted good (listed (a ∷ b ∷ vs) next) = rw (ne_eqb (length (a ∷ b ∷ vs)) 1 (λ e. omega arith)) refl
 
-  pub one_not : (good : ℕ → ℕ → A) (l : Listed) → (numbers_of l).count ≢ 1 → with_one l bad good ≡ bad
-  unfolding numbers_of with_one
-  one_not good unlisted e = refl
-  one_not good (listed [] next) e = refl
-  one_not good (listed (a ∷ []) next) e = absurd (e refl)
-  one_not good (listed (a ∷ b ∷ vs) next) e = refl
+  pub two_counted : (good : ℕ → ℕ → ℕ → A) (l : Listed) → with_two l bad good ≡ two_by (pair_of l) bad good
+  unfolding with_two
+  two_counted good unlisted = refl
+  two_counted good (listed [] next) = refl
+  two_counted good (listed (a ∷ []) next) = refl
+  two_counted good (listed (a ∷ b ∷ []) next) = refl
+  two_counted good (listed (a ∷ b ∷ c ∷ vs) next) = refl
 
-  module _ (good : ℕ → ℕ → ℕ → A) where
-    pub two_is : (l : Listed) (a b next : ℕ) → pair_of l ≡ Two a b next → with_two l bad good ≡ good a b next
-    unfolding with_two
-    two_is unlisted a b next e = let z : ◌≡◌ {A = ℕ} 0 1 = cc in absurd (omega arith)
-    two_is (listed [] to) a b next e = let z : ◌≡◌ {A = ℕ} 0 1 = cc in absurd (omega arith)
-    two_is (listed (x ∷ []) to) a b next e = let z : ◌≡◌ {A = ℕ} 0 1 = cc in absurd (omega arith)
-    two_is (listed (x ∷ y ∷ []) to) a b next e = cc
-    two_is (listed (x ∷ y ∷ w ∷ vs) to) a b next e = let z : ◌≡◌ {A = ℕ} 0 1 = cc in absurd (omega arith)
-
-    pub two_not : (l : Listed) → pair_of l ≡ Other → with_two l bad good ≡ bad
-    unfolding with_two
-    two_not unlisted e = refl
-    two_not (listed [] next) e = refl
-    two_not (listed (a ∷ []) next) e = refl
-    two_not (listed (a ∷ b ∷ []) next) e = let z : ◌≡◌ {A = ℕ} 0 1 = cc in absurd (omega arith)
-    two_not (listed (a ∷ b ∷ c ∷ vs) next) e = refl
-
-  pub four_is : (good : ℕ → ℕ → ℕ → ℕ → ℕ → A) (l : Listed) → (numbers_of l).count ≡ 4
-      → with_four l bad good ≡ good (get_or (numbers_of l).values 0 0) (get_or (numbers_of l).values 1 0) (get_or (numbers_of l).values 2 0) (get_or (numbers_of l).values 3 0) (numbers_of l).next
+  pub four_counted : (good : ℕ → ℕ → ℕ → ℕ → ℕ → A) (l : Listed) → with_four l bad good ≡ four_by (numbers_of l) bad good
   unfolding numbers_of with_four
-  four_is good unlisted e = absurd (omega arith)
-  four_is good (listed [] next) e = absurd (omega arith)
-  four_is good (listed (a ∷ []) next) e = absurd (omega arith)
-  four_is good (listed (a ∷ b ∷ []) next) e = absurd (omega arith)
-  four_is good (listed (a ∷ b ∷ c ∷ []) next) e = absurd (omega arith)
-  four_is good (listed (a ∷ b ∷ c ∷ d ∷ []) next) e = refl
-  four_is good (listed (a ∷ b ∷ c ∷ d ∷ x ∷ vs) next) e = absurd (omega arith)
-
-  pub four_not : (good : ℕ → ℕ → ℕ → ℕ → ℕ → A) (l : Listed) → (numbers_of l).count ≢ 4 → with_four l bad good ≡ bad
-  unfolding numbers_of with_four
-  four_not good unlisted e = refl
-  four_not good (listed [] next) e = refl
-  four_not good (listed (a ∷ []) next) e = refl
-  four_not good (listed (a ∷ b ∷ []) next) e = refl
-  four_not good (listed (a ∷ b ∷ c ∷ []) next) e = refl
-  four_not good (listed (a ∷ b ∷ c ∷ d ∷ []) next) e = absurd (e refl)
-  four_not good (listed (a ∷ b ∷ c ∷ d ∷ x ∷ vs) next) e = refl
+  four_counted good unlisted = refl
+  four_counted good (listed [] next) = refl
+  four_counted good (listed (a ∷ []) next) = refl
+  four_counted good (listed (a ∷ b ∷ []) next) = refl
+  four_counted good (listed (a ∷ b ∷ c ∷ []) next) = refl
+  four_counted good (listed (a ∷ b ∷ c ∷ d ∷ []) next) = refl
+  four_counted good (listed (a ∷ b ∷ c ∷ d ∷ x ∷ vs) next) = rw (ne_eqb (length (a ∷ b ∷ c ∷ d ∷ x ∷ vs)) 4 (λ e. omega arith)) refl

@@ -1,12 +1,9 @@
 -- The digit at a place, and the number by the digits that are read. Assumes nothing.
-use Prim.Native.Nat.{ℕ, ◌+◌, ◌-◌, ◌*◌, ◌≤◌, ◌<◌}
-use mathlib.Core.Path.{◌≡◌, refl, subst₂}
-use mathlib.Core.List.{List}
-use native.Mathlib.Omega.{arith}
+use Rattle.std.proofs.Common.{◌≡◌, ℕ, ◌+◌, ◌-◌, ◌*◌, ◌<◌, ◌≤◌, List, length, get_or, Some, None, refl, ◌∙◌, subst₂, arith, eq-eqb, ne_eqb, le-leb}
+use Rattle.std.proofs.lemmas.Option.{none-some, some_pair_parts}
 use native.Mathlib.Decide.{dec_lt, ℕ_discrete}
-use borrow.Author.Tests.{le-leb, lt-leb, eq-eqb, ne_eqb}
-use lib.ListN.{get_or, length, get_or-eq_default}
-use Rattle.text.specs.declared.Number.TheVariants.{Value, Missing}
+use borrow.Author.Tests.{lt-leb}
+use lib.ListN.{get_or-eq_default}
 use Rattle.text.specs.Reading.{digit_of, digit_at, number_of, number_at}
 
 pub low_digit : (b : ℕ) → b < 48 → digit_of b ≡ 10
@@ -53,30 +50,30 @@ module _ {a : ℕ} (s : List ℕ) (at : ℕ) (e : a ≡ digit_at s at) where
 
 -- the number, by one digit after the other
 module _ (s : List ℕ) (at a : ℕ) (ea : a ≡ digit_at s at) where
-  pub no_digit : 10 ≤ a → Missing ≡ number_at s at
+  pub no_digit : 10 ≤ a → None ≡ number_at s at
   unfolding number_of
   no_digit h = rw (← ea, le-leb 10 a h)
 
   module _ (la : a < 10) (b : ℕ) (eb : b ≡ digit_at s (at + 1)) where
-    pub one_digit : 10 ≤ b → Value a (at + 1) ≡ number_at s at
+    pub one_digit : 10 ≤ b → Some (a, at + 1) ≡ number_at s at
     unfolding number_of
     one_digit h = rw (← ea, ← eb, lt-leb 10 a la, le-leb 10 b h)
 
-    pub zero_first : b < 10 → a ≡ 0 → Missing ≡ number_at s at
+    pub zero_first : b < 10 → a ≡ 0 → None ≡ number_at s at
     unfolding number_of
     zero_first h z = rw (← ea, ← eb, lt-leb 10 a la, lt-leb 10 b h, eq-eqb a 0 z)
 
     module _ (lb : b < 10) (na : a ≡ 0 → ⊥) (c : ℕ) (ec : c ≡ digit_at s (at + 2)) where
-      pub two_digits : 10 ≤ c → Value (a * 10 + b) (at + 2) ≡ number_at s at
+      pub two_digits : 10 ≤ c → Some (a * 10 + b, at + 2) ≡ number_at s at
       unfolding number_of
       two_digits h = rw (← ea, ← eb, ← ec, lt-leb 10 a la, lt-leb 10 b lb, ne_eqb a 0 na, le-leb 10 c h)
 
       module _ (lc : c < 10) (d : ℕ) (ed : d ≡ digit_at s (at + 3)) where
-        pub three_digits : 10 ≤ d → Value (a * 100 + b * 10 + c) (at + 3) ≡ number_at s at
+        pub three_digits : 10 ≤ d → Some (a * 100 + b * 10 + c, at + 3) ≡ number_at s at
         unfolding number_of
         three_digits h = rw (← ea, ← eb, ← ec, ← ed, lt-leb 10 a la, lt-leb 10 b lb, ne_eqb a 0 na, lt-leb 10 c lc, le-leb 10 d h)
 
-        pub four_digits : d < 10 → Missing ≡ number_at s at
+        pub four_digits : d < 10 → None ≡ number_at s at
         unfolding number_of
         four_digits h = rw (← ea, ← eb, ← ec, ← ed, lt-leb 10 a la, lt-leb 10 b lb, ne_eqb a 0 na, lt-leb 10 c lc, lt-leb 10 d h)
 
@@ -91,15 +88,12 @@ module _ (s : List ℕ) (at : ℕ) (P : ℕ → ℕ → Type 0) where
   abbrev Three : Type 0
   Three = (a : ℕ) → a ≡ digit_at s at → a < 10 → (b : ℕ) → b ≡ digit_at s (at + 1) → b < 10 → (a ≡ 0 → ⊥) → (c : ℕ) → c ≡ digit_at s (at + 2) → c < 10 → 10 ≤ digit_at s (at + 3) → P (a * 100 + b * 10 + c) (at + 3)
 
-  module _ (v next : ℕ) (e : number_at s at ≡ Value v next) (one : One) (two : Two) (three : Three) where
-    never : Missing ≡ number_at s at → P v next
-    never m = let z : ◌≡◌ {A = ℕ} 0 1 = cc in absurd (omega arith)
+  module _ (v next : ℕ) (e : number_at s at ≡ Some (v, next)) (one : One) (two : Two) (three : Three) where
+    never : None ≡ number_at s at → P v next
+    never m = absurd (none-some (v, next) (m ∙ e))
 
-    same : {w to : ℕ} → Value w to ≡ number_at s at → P w to → P v next
-    same {w} {to} m h =
-        let ev : w ≡ v = cc in
-        let en : to ≡ next = cc in
-        subst₂ P ev en h
+    same : {w to : ℕ} → Some (w, to) ≡ number_at s at → P w to → P v next
+    same {w} {to} m h = let (ev, en) = some_pair_parts w v to next (m ∙ e) in subst₂ P ev en h
 
     pub by_digits : P v next
     by_digits = go (dec_lt a 10) (dec_lt b 10) (ℕ_discrete a 0) (dec_lt c 10) (dec_lt d 10)
@@ -127,7 +121,7 @@ module _ (s : List ℕ) (at : ℕ) (P : ℕ → ℕ → Type 0) where
         go (yes la) (yes lb) (no z) (yes lc) (yes ld) = never (four_digits s at a refl la b refl lb z c refl lc d refl ld)
 
 -- a number that is read has a digit, and ends in the text
-pub number_ahead : (s : List ℕ) (at v next : ℕ) → number_at s at ≡ Value v next → (at < next) × (next ≤ length s)
+pub number_ahead : (s : List ℕ) (at v next : ℕ) → number_at s at ≡ Some (v, next) → (at < next) × (next ≤ length s)
 number_ahead s at v next e =
     by_digits s at (λ _ to. (at < to) × (to ≤ length s)) v next e
     (λ a ea la h. (omega arith, omega (arith, digit_inside s at ea la)))
@@ -135,4 +129,7 @@ number_ahead s at v next e =
     (λ a ea la b eb lb n c ec lc h. (omega arith, omega (arith, digit_inside s (at + 2) ec lc)))
 
 -- a law for each answer of number_at
-pub ruleset answers = (digit_inside, no_digit, one_digit, zero_first, two_digits, three_digits, four_digits)
+pub ruleset answers = (no_digit, one_digit, zero_first, two_digits, three_digits, four_digits)
+
+-- a law for each answer of digit
+pub ruleset digits = (low_digit, high_digit, mid_digit, inside)

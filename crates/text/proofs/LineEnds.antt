@@ -1,12 +1,7 @@
 -- The line end at a place, by the bytes there. Assumes nothing.
-use Prim.Native.Nat.{ℕ, ◌+◌, ◌≤◌}
-use mathlib.Core.Path.{◌≡◌, refl}
-use mathlib.Core.Logic.{◌≢◌, by_cases}
-use mathlib.Core.List.{List}
+use Rattle.std.proofs.Common.{◌≡◌, ℕ, ◌+◌, ◌≤◌, ◌≢◌, List, length, get_or, refl, arith, eq-eqb, ne_eqb}
+use mathlib.Core.Logic.{by_cases}
 use native.Mathlib.Decide.{ℕ_discrete}
-use native.Mathlib.Omega.{arith}
-use borrow.Author.Tests.{eq-eqb, ne_eqb}
-use lib.ListN.{get_or, length}
 use Rattle.text.specs.Reading.{line_end_at}
 use Rattle.text.proofs.DigitLaws.{inside}
 
@@ -46,3 +41,6 @@ module _ (s : List ℕ) (at : ℕ) where
       go : Ended → at + line_end_at s at ≤ length s
       go (by_10 e l) = omega (arith, inside s at (omega arith))
       go (by_13_10 e f l) = omega (arith, inside s (at + 1) (omega arith))
+
+-- a law for each answer of line_end, and that its places are in the text
+pub ruleset line_ends = (end_alone, end_after_13, end_other, end_13, inside)

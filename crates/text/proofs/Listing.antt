@@ -1,32 +1,24 @@
 -- Numbers with a comma between, read one after the other. Assumes nothing.
-use Prim.Native.Nat.{ℕ, zero, suc, ◌+◌, ◌≤◌, ◌<◌}
-use mathlib.Core.Path.{◌≡◌, refl, sym, ap, ◌∙◌}
-use mathlib.Core.List.{List, [], ◌∷◌}
-use mathlib.Core.Bool.{true}
-use native.Mathlib.Nat.{zero-add}
-use native.Mathlib.Numerals.{add-one}
-use native.Mathlib.Omega.{arith}
-use borrow.Author.Tests.{eq-eqb, ne_eqb}
-use lib.Dec.{eqb}
-use lib.ListN.{get_or, length, set, length-set, get_or-eq_default}
+use Rattle.std.proofs.Common.{◌≡◌, ℕ, zero, suc, ◌+◌, ◌<◌, ◌≤◌, cond, eqb, List, [], ◌∷◌, length, get_or, set, Some, None, Option, sym, refl, ap, ◌∙◌, zero-add, add-one, arith, length-set, eq-eqb, ne_eqb}
+use mathlib.Core.Logic.{by_cases}
+use native.Mathlib.Decide.{ℕ_discrete}
+use lib.ListN.{get_or-eq_default}
 use lib.Seq.{sets, set_out}
-use Rattle.text.specs.declared.Number.{Number}
-use Rattle.text.specs.declared.Number.TheVariants.{Value, Missing}
 use Rattle.text.specs.declared.Numbers.{Numbers}
 use Rattle.counting.specs.Choice.{pick}
-use Rattle.text.specs.Reading.{number_at, Listed, listed, unlisted, before, after_number, numbers_from, numbers_at, numbers_of}
+use Rattle.text.specs.Reading.{Number, number_at, Listed, listed, unlisted, before, after_number, numbers_from, numbers_at, numbers_of}
 use Rattle.text.proofs.DigitLaws.{low_digit, no_digit, number_ahead}
 
 module _ (s : List ℕ) where
   -- past the end there is no number
-  past : (at : ℕ) → length s ≤ at → number_at s at ≡ Missing
+  past : (at : ℕ) → length s ≤ at → number_at s at ≡ None
   past at h = sym (no_digit s at _ refl (omega (arith, low_digit (get_or s at 0) (omega (arith, get_or-eq_default s 0 h)))))
 
   -- what follows a number is read at a later place
   later : (at : ℕ) (r : Number) → number_at s at ≡ r → (f g : ℕ → Listed) → ((i : ℕ) → at < i → f i ≡ g i) → after_number s r f ≡ after_number s r g
   unfolding after_number
-  later at Missing e f g w = refl
-  later at (Value v next) e f g w =
+  later at None e f g w = refl
+  later at (Some (v, next)) e f g w =
       ap (λ (l : Listed). pick (eqb (get_or s next 0) 44) (λ _. before v l) (λ _. listed (v ∷ []) next)) (w (next + 1) (omega (arith, (number_ahead s at v next e).0)))
 
   -- the bound on how many are read does not matter
@@ -46,7 +38,7 @@ module _ (s : List ℕ) where
       go zero e = rw (past at (omega arith))
       go (suc n) e = later at (number_at s at) refl (λ i. numbers_from n s i) (λ i. numbers_from (suc n) s i) (λ i l. enough n (suc n) i (omega arith) (omega arith))
 
-  module _ (at v next : ℕ) (e : number_at s at ≡ Value v next) where
+  module _ (at v next : ℕ) (e : number_at s at ≡ Some (v, next)) where
     pub numbers_last : (get_or s next 0 ≡ 44 → ⊥) → numbers_at s at ≡ listed (v ∷ []) next
     unfolding after_number
     numbers_last n = numbers_step at ∙ rw (e, ne_eqb (get_or s next 0) 44 n)
@@ -55,14 +47,14 @@ module _ (s : List ℕ) where
     unfolding after_number
     numbers_more c = numbers_step at ∙ rw (e, eq-eqb (get_or s next 0) 44 c)
 
-  pub numbers_none : (at : ℕ) → number_at s at ≡ Missing → numbers_at s at ≡ unlisted
+  pub numbers_none : (at : ℕ) → number_at s at ≡ None → numbers_at s at ≡ unlisted
   unfolding after_number
   numbers_none at e = numbers_step at ∙ rw e
 
 -- the answer where so many numbers were read before, of which `values` has the first
-pub resume : ℕ → List ℕ → Listed → Numbers
-resume count values (listed vs next) = record { found = true; count = count + length vs; values = sets values count vs; next = next }
-resume count values unlisted = numbers_of unlisted
+pub resume : ℕ → List ℕ → Listed → Option Numbers
+resume count values (listed vs next) = Some (record { count = count + length vs; values = sets values count vs; next = next })
+resume count values unlisted = None
 
 sets_out : (l : List ℕ) (i : ℕ) (vs : List ℕ) → length l ≤ i → sets l i vs ≡ l
 sets_out l i [] h = refl
@@ -88,15 +80,18 @@ resume_before count v values (listed vs next) =
 resume_before count v values unlisted = refl
 
 -- one turn of the loop that reads them
-module _ (s : List ℕ) (at count : ℕ) (values : List ℕ) (whole : Numbers) (rest : resume count values (numbers_at s at) ≡ whole) where
-  pub turn_none : number_at s at ≡ Missing → numbers_of unlisted ≡ whole
-  unfolding resume
-  turn_none e = rw (numbers_none s at e) at rest
+abbrev pub resume_by : List ℕ → ℕ → List ℕ → Number → Option Numbers
+resume_by s count values None = None
+resume_by s count values (Some (v, next)) = cond (eqb (get_or s next 0) 44) (resume (count + 1) (set values count v) (numbers_at s (next + 1))) (Some (record { count = count + 1; values = set values count v; next = next }))
 
-  module _ (v next : ℕ) (e : number_at s at ≡ Value v next) (kept : List ℕ) (ek : kept ≡ set values count v) (b : ℕ) (eb : b ≡ get_or s next 0) where
-    pub turn_last : (b ≡ 44 → ⊥) → record { found = true; count = count + 1; values = kept; next = next } ≡ whole
-    unfolding resume
-    turn_last n = rw ek (rw (numbers_last s at v next e (λ c. n (eb ∙ c))) at rest)
+pub resume_step : (s : List ℕ) (at count : ℕ) (values : List ℕ) → resume count values (numbers_at s at) ≡ resume_by s count values (number_at s at)
+unfolding resume
+resume_step s at count values = go (number_at s at) refl
+  where
+    go : (n : Number) → number_at s at ≡ n → resume count values (numbers_at s at) ≡ resume_by s count values n
+    go None e = rw (numbers_none s at e) refl
+    go (Some (v, next)) e = by_cases (ℕ_discrete (get_or s next 0) 44)
+        (λ c. rw (eq-eqb (get_or s next 0) 44 c, numbers_more s at v next e c) (resume_before count v values (numbers_at s (next + 1))))
+        (λ n. rw (ne_eqb (get_or s next 0) 44 n, numbers_last s at v next e n) refl)
 
-    pub turn_more : b ≡ 44 → resume (count + 1) kept (numbers_at s (next + 1)) ≡ whole
-    turn_more c = rw ek (sym (resume_before count v values (numbers_at s (next + 1))) ∙ rw (numbers_more s at v next e (sym eb ∙ c)) at rest)
+pub ruleset steps = (resume_none, resume_step)

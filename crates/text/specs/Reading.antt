@@ -1,8 +1,6 @@
 -- What is read at a place of a text. Past the end there is byte 0, which is no digit, no comma and no line end.
-use Rattle.std.specs.Prelude.{ℕ, zero, suc, ◌+◌, ◌-◌, ◌*◌, List, [], ◌∷◌, Bool, true, false, cond, ◌&&◌, get_or, length, drop, leb, eqb}
+use Rattle.std.specs.Prelude.{ℕ, zero, suc, ◌+◌, ◌-◌, ◌*◌, List, [], ◌∷◌, Bool, true, false, cond, ◌&&◌, Option, Some, None, get_or, length, drop, leb, eqb}
 use Rattle.counting.specs.Choice.{pick}
-use Rattle.text.specs.declared.Number.{Number}
-use Rattle.text.specs.declared.Number.TheVariants.{Value, Missing}
 use Rattle.text.specs.declared.Numbers.{Numbers}
 
 -- the value of a digit, or 10 of any other byte
@@ -12,15 +10,19 @@ digit_of b = cond (leb 48 b) (cond (leb b 57) (b - 48) 10) 10
 abbrev pub digit_at : List ℕ → ℕ → ℕ
 digit_at s at = digit_of (get_or s at 0)
 
+-- a number with the place after it, or none
+abbrev pub Number : Type 0
+Number = Option (ℕ × ℕ)
+
 -- the number that four places' digits begin with
 unfoldable pub number_of : (at a b c d : ℕ) → Number
 number_of at a b c d =
-    cond (leb 10 a) Missing
-    (cond (leb 10 b) (Value a (at + 1))
-    (cond (eqb a 0) Missing
-    (cond (leb 10 c) (Value (a * 10 + b) (at + 2))
-    (cond (leb 10 d) (Value (a * 100 + b * 10 + c) (at + 3))
-    Missing))))
+    cond (leb 10 a) None
+    (cond (leb 10 b) (Some (a, at + 1))
+    (cond (eqb a 0) None
+    (cond (leb 10 c) (Some (a * 10 + b, at + 2))
+    (cond (leb 10 d) (Some (a * 100 + b * 10 + c, at + 3))
+    None))))
 
 -- Numbers have one to three digits, no leading zero except 0 itself.
 abbrev pub number_at : List ℕ → ℕ → Number
@@ -47,8 +49,8 @@ line_end_at s at = cond (eqb (get_or s at 0) 10) 1 (cond (eqb (get_or s at 0) 13
 
 -- after a number: a comma and more numbers, or nothing more
 unfoldable pub after_number : List ℕ → Number → (ℕ → Listed) → Listed
-after_number s Missing more = unlisted
-after_number s (Value v next) more = pick (eqb (get_or s next 0) 44) (λ _. before v (more (next + 1))) (λ _. listed (v ∷ []) next)
+after_number s None more = unlisted
+after_number s (Some (v, next)) more = pick (eqb (get_or s next 0) 44) (λ _. before v (more (next + 1))) (λ _. listed (v ∷ []) next)
 
 unfoldable pub numbers_from : ℕ → List ℕ → ℕ → Listed
 numbers_from zero s at = unlisted
@@ -75,12 +77,6 @@ unfoldable pub last_line_at : List ℕ → List ℕ → ℕ → Listed
 last_line_at key s at = pick (starts_with key (drop at s)) (λ _. last_closed s (numbers_at s (at + length key))) (λ _. unlisted)
 
 -- what the reading calls answer: the first four numbers stand for themselves, 0 where there are fewer
-unfoldable pub numbers_of : Listed → Numbers
-numbers_of (listed vs next) =
-    record {
-      found = true;
-      count = length vs;
-      values = get_or vs 0 0 ∷ get_or vs 1 0 ∷ get_or vs 2 0 ∷ get_or vs 3 0 ∷ [];
-      next = next;
-    }
-numbers_of unlisted = record { found = false; count = 0; values = 0 ∷ 0 ∷ 0 ∷ 0 ∷ []; next = 0 }
+unfoldable pub numbers_of : Listed → Option Numbers
+numbers_of (listed vs next) = Some (record { count = length vs; values = get_or vs 0 0 ∷ get_or vs 1 0 ∷ get_or vs 2 0 ∷ get_or vs 3 0 ∷ []; next = next })
+numbers_of unlisted = None

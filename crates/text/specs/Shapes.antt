@@ -1,7 +1,5 @@
 -- Lines by how many numbers they have: `bad` where a line has another layout.
-use Rattle.std.specs.Prelude.{ℕ, List, [], ◌∷◌}
-use Rattle.text.specs.declared.Pair.{Pair}
-use Rattle.text.specs.declared.Pair.TheVariants.{Two, Other}
+use Rattle.std.specs.Prelude.{ℕ, List, [], ◌∷◌, Option, Some, None}
 use Rattle.text.specs.Reading.{Listed}
 use Rattle.text.specs.Reading.Listed.{listed, unlisted}
 
@@ -33,6 +31,6 @@ unfoldable pub with_some : {A : Type 0} → Listed → A → (List ℕ → ℕ �
 with_some unlisted bad good = bad
 with_some (listed vs next) bad good = good vs next
 
--- the two numbers of a line
-abbrev pub pair_of : Listed → Pair
-pair_of l = with_two l Other Two
+-- the two numbers of a line and the place after it
+abbrev pub pair_of : Listed → Option (ℕ × ℕ × ℕ)
+pair_of l = with_two l None (λ a b next. Some (a, b, next))

@@ -1,26 +1,22 @@
-use mathlib.Core.Path.{sym, ap, ◌∙◌}
-use Rattle.load.specs.Load.{parse}
-use Rattle.load.proofs.Turns.{count_most, count_refused, count_value}
+use Rattle.std.proofs.Common.{replicate, ◌∙◌, arith}
+use Rattle.std.proofs.lemmas.Grind.{common_steps}
+use Rattle.load.specs.Load.{empty_sheet, with_nexts}
+use Rattle.load.proofs.Ends.{counted_none}
+use Rattle.load.proofs.Turns.{zeros_at, bars_steps, wires_steps, judged_steps}
 use Rattle.load.proofs.load.Goals as goal
 
-pub load_edges-requires : goal.load_edges-requires
-load_edges-requires c =
-    (count_most 128 _ _ _ (sym c.count_line-bars.ensures ∙ c.in-Value.is), count_most 256 _ _ _ (sym c.count_line-wires.ensures ∙ c.in-Value-wires.is))
+pub edge_lines-requires : goal.edge_lines-requires
+edge_lines-requires c = (omega (arith, c.in_ok-vertices.ensures.within), omega (arith, c.in_ok-edges.ensures.within), counted_none (replicate 256 0) (replicate 256 0) (replicate 128 0) (zeros_at 128))
 
-pub returns-in-Refused : goal.returns-in-Refused
-unfolding parse
-returns-in-Refused c =
-    (count_refused 128 _ _ _ (sym c.count_line-bars.ensures ∙ c.in-Refused.is))
+pub ring_lines-requires : goal.ring_lines-requires
+ring_lines-requires c =
+    let read = c.in_ok-at.ensures in
+    (omega (arith, read.counts.0, c.in_ok-vertices.ensures.within), omega (arith, read.counts.1, c.in_ok-edges.ensures.within), read.read.0, read.read.1)
 
-pub returns-in-Refused-wires : goal.returns-in-Refused-wires
-unfolding parse
-returns-in-Refused-wires c =
-    (count_refused 256 _ _ _ (sym c.count_line-wires.ensures ∙ c.in-Refused-wires.is)
-    ∙ count_value 128 _ _ _ _ (sym c.count_line-bars.ensures ∙ c.in-Value.is))
+pub returns-in_err-at-2 : goal.returns-in_err-at-2
+unfolding empty_sheet with_nexts
+returns-in_err-at-2 c = let rest = c.in_err-at-2.ensures ∙ c.in_ok-at.ensures.rest in grind (arith, common_steps, bars_steps, wires_steps)
 
-pub returns-in-Value-wires : goal.returns-in-Value-wires
-unfolding parse
-returns-in-Value-wires c =
-    c.load_edges.ensures ∙
-    (count_value 256 _ _ _ _ (sym c.count_line-wires.ensures ∙ c.in-Value-wires.is)
-    ∙ count_value 128 _ _ _ _ (sym c.count_line-bars.ensures ∙ c.in-Value.is))
+pub returns-then-not-is_accepted : goal.returns-then-not-is_accepted
+unfolding empty_sheet with_nexts
+returns-then-not-is_accepted c = let rest = c.in_ok-at-2.ensures ∙ c.in_ok-at.ensures.rest in grind (arith, common_steps, bars_steps, wires_steps, judged_steps)

@@ -14,7 +14,7 @@ has_poles-requires c = acyclic_ends _ _ _ _ _ c.in-Some.ensures
 
 pub returns-then-not-has_poles : goal.returns-then-not-has_poles
 returns-then-not-has_poles c =
-    c.refuse-then-not-has_poles.ensures ∙ bad_poles _ _ _ _ _ (sym c.is_rooted.ensures ∙ c.if-not-is_rooted.false) _ c.in-Some.ensures (sym c.has_poles.ensures ∙ c.if-not-has_poles.true)
+    bad_poles _ _ _ _ _ (sym c.is_rooted.ensures ∙ c.if-not-is_rooted.false) _ c.in-Some.ensures (sym c.has_poles.ensures ∙ c.if-not-has_poles.true)
 
 pub faced-requires : goal.faced-requires
 faced-requires c =

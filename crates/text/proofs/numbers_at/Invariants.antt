@@ -1,4 +1,4 @@
-use Rattle.std.proofs.Common.{◌≡◌, ◌≤◌, ◌-◌, length}
+use Rattle.std.proofs.Common.{◌≡◌, ◌-◌, ◌≤◌, length}
 use Rattle.text.specs.Reading.{numbers_at, numbers_of}
 use Rattle.text.proofs.Listing.{resume}
 use Rattle.text.proofs.numbers_at.Given as goal

@@ -1,34 +1,28 @@
-use Rattle.std.proofs.Common.{rules}
-use Prim.Native.Nat.{◌-◌}
-use mathlib.Core.Path.{◌≡◌, refl, ◌∙◌}
-use native.Mathlib.Omega.{arith}
-use Rattle.clauses.specs.Darts.{touches_of}
-use Rattle.counting.specs.Counts.{count}
-use Rattle.load.specs.Inner.{after_rings}
-use Rattle.load.proofs.Turns.{zeros_at, rings_over, ring_line_refused, ring_line_next}
+use Rattle.std.proofs.Common.{◌≡◌, ◌-◌, sym, refl, ap, ◌∙◌, arith}
+use Rattle.std.proofs.lemmas.Grind.{common_steps}
+use Rattle.load.proofs.Turns.{line_by, zeros_at, rings_step}
 use Rattle.load.proofs.around.ring_lines.Goals as goal
 
 pub loop-v-init : goal.loop-v-init
 loop-v-init c =
+    let z : c.args.sheet.now.vertices - 0 ≡ c.args.sheet.now.vertices = omega arith in
+    record { rest = rw z refl; clear = λ k. omega (arith, zeros_at 256 k); size = refl }
+
+pub returns-in_err-at : goal.returns-in_err-at
+returns-in_err-at c =
     let a = c.args in
-    let z : a.n - 0 ≡ a.n = omega arith in
-    (search rules, rw z refl, (λ k. omega (arith, zeros_at 256 k)), search rules)
-
-pub ring_line-step-requires : goal.ring_line-step-requires
-ring_line-step-requires c = (search rules, search rules, c.requires.2)
-
-pub returns-in-Refused : goal.returns-in-Refused
-unfolding after_rings
-returns-in-Refused c =
-    let degree_is : (let a = c.args in c.wide-degree.result ≡ count (λ k. touches_of a.tails.now a.heads.now k c.loop-v.v) a.m) = c.wide-degree.ensures.0 ∙ c.requires.3 c.loop-v.v (omega arith) in
-    ring_line_refused _ _ _ _ _ _ _ _ _ c.loop-v.invariant.1 c.loop-v-test.true c.loop-v.seen (omega arith) c.loop-v.invariant.2 _ degree_is _ _ _ c.ring_line-step.ensures _ c.in-Refused.is
+    let loop = c.loop-v in
+    let step = rings_step a.text.now a.sheet.now loop.nexts loop.v loop.at c.loop-v-test.true loop.seen (omega arith) loop.invariant.clear c.from-degree.result (c.from-degree.ensures ∙ c.requires.3 loop.v (omega arith)) in
+    let whole = ap (line_by a.text.now a.sheet.now loop.nexts loop.v loop.at) c.in_err-at.ensures.rest ∙ sym step ∙ loop.invariant.rest in
+    grind (arith, common_steps)
 
 pub loop-v-preserved : goal.loop-v-preserved
 loop-v-preserved c =
-    let degree_is : (let a = c.args in c.wide-degree.result ≡ count (λ k. touches_of a.tails.now a.heads.now k c.loop-v.v) a.m) = c.wide-degree.ensures.0 ∙ c.requires.3 c.loop-v.v (omega arith) in
-    let read = c.ring_line-step.ensures in
-    (search rules, ring_line_next _ _ _ _ _ _ _ _ _ c.loop-v.invariant.1 c.loop-v-test.true c.loop-v.seen (omega arith) c.loop-v.invariant.2 _ degree_is _ _ _ read _ c.in-Next.is, (λ k. read.marks k (omega (arith, c.loop-v.invariant.2 k))), read.size ∙ c.loop-v.invariant.3)
-
-pub returns : goal.returns
-unfolding after_rings
-returns c = rings_over _ _ _ _ _ _ _ _ _ c.loop-v.invariant.1 c.loop-v-test.false
+    let a = c.args in
+    let loop = c.loop-v in
+    let step = rings_step a.text.now a.sheet.now loop.nexts loop.v loop.at c.loop-v-test.true loop.seen (omega arith) loop.invariant.clear c.from-degree.result (c.from-degree.ensures ∙ c.requires.3 loop.v (omega arith)) in
+    record {
+      rest = ap (line_by a.text.now a.sheet.now loop.nexts loop.v loop.at) c.in_ok-at.ensures.rest ∙ sym step ∙ loop.invariant.rest;
+      clear = λ k. c.in_ok-at.ensures.marks k (omega (arith, loop.invariant.clear k));
+      size = omega arith;
+    }
