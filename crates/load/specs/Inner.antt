@@ -1,5 +1,5 @@
 -- Load in the steps of its functions, over the record's arrays.
-use Rattle.std.specs.Prelude.{ℕ, ◌+◌, ◌<◌, ◌≡◌, ◌≢◌, Bool, true, false, cond, not, ◌&&◌, List, [], ◌∷◌, Some, None, Result, Ok, Err, eqb, ltb, leb, get_or, set, length}
+use Rattle.std.specs.Prelude.{ℕ, ◌≤◌, ◌+◌, ◌<◌, ◌≡◌, ◌≢◌, Bool, true, false, cond, not, ◌&&◌, List, [], ◌∷◌, Some, None, Result, Ok, Err, eqb, ltb, leb, get_or, set, length}
 use Rattle.clauses.specs.Darts.{touches_of, dart_of}
 use Rattle.counting.specs.Counts.{count}
 use Rattle.counting.specs.Choice.{pick}
@@ -26,6 +26,10 @@ Apart m tails heads = (k : ℕ) → k < m → get_or tails k 0 ≢ get_or heads 
 -- degrees has for each vertex how many of the first k edges have an end there
 abbrev pub Counted : ℕ → List ℕ → List ℕ → List ℕ → Type 0
 Counted k tails heads degrees = (v : ℕ) → v < 128 → get_or degrees v 0 ≡ count (λ i. touches_of tails heads i v) k
+
+-- the counts and the edges of the sheet are read: there is room for them, and no edge has both ends at one vertex
+abbrev pub EdgesRead : Sheet → Type 0
+EdgesRead s = (s.vertices ≤ 128) × (s.edges ≤ 256) × Apart s.edges s.tails s.heads
 
 -- one more at v
 unfoldable pub one_more : ℕ → List ℕ → List ℕ

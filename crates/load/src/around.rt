@@ -3,7 +3,7 @@ ghost use Rattle.std.specs.Prelude.{ℕ, ◌≡◌, ◌+◌, ◌^◌, ◌≤◌,
 ghost use Rattle.text.specs.Reading.{number_at, line_at, listed, closed};
 ghost use Rattle.text.specs.Keys.{around_key};
 ghost use Rattle.load.specs.Load.{with_nexts, ring_lines};
-ghost use Rattle.load.specs.Inner.{Apart, Counted, fits_of, edge_of, marks_of, is_listed, refusal_of, rest_at, end_of, ringed_by, ring_from, after_rings};
+ghost use Rattle.load.specs.Inner.{EdgesRead, Counted, fits_of, edge_of, marks_of, is_listed, refusal_of, rest_at, end_of, ringed_by, ring_from, after_rings};
 
 use answers::Refusal;
 use clauses::dart_at;
@@ -13,7 +13,7 @@ use sheet::Sheet;
 // Which of its two ends that is takes no branch, since nothing foretells it.
 #[tactic(auto, using(crate::proofs::Walking::fits_steps))]
 fn fits(w: usize, v: usize, sheet: &Sheet, seen: &[u16; 256]) -> bool
-    requires { (sheet.now.edges ≤ 256) × (v < 128) × Apart sheet.now.edges sheet.now.tails sheet.now.heads }
+    requires { EdgesRead sheet.now × (v < 128) }
     ensures fit { result ≡ fits_of sheet.now v seen.now w }
     ensures below { IsTrue result → w < sheet.now.edges }
 {
@@ -38,7 +38,7 @@ fn edge_at(
     sheet: &Sheet,
     seen: &mut [u16; 256],
 ) -> Result<(usize, usize), Refusal>
-    requires { (sheet.now.edges ≤ 256) × (v < 128) × Apart sheet.now.edges sheet.now.tails sheet.now.heads }
+    requires { EdgesRead sheet.now × (v < 128) }
     ensures edge { result ≡ edge_of text.now sheet.now v seen.old (number_at text.now at) }
     ensures marks { seen.new ≡ marks_of sheet.now v seen.old (number_at text.now at) }
     ensures within { IfOk result (λ r. (r.0 < 512) × (at < r.1) × (r.1 ≤ length text.now)) }
@@ -101,7 +101,7 @@ fn ring_line(
     seen: &mut [u16; 256],
     nexts: &mut [u16; 512],
 ) -> Result<usize, Refusal>
-    requires { (sheet.now.edges ≤ 256) × (v < 128) × Apart sheet.now.edges sheet.now.tails sheet.now.heads }
+    requires { EdgesRead sheet.now × (v < 128) }
     ensures rest { ringed_by nexts.new result ≡ ring_from degree sheet.now v 0 0 0 seen.old nexts.old (line_at around_key text.now start) }
     ensures marks { (k : ℕ) → get_or seen.old k 0 ≤ v + 1 → get_or seen.new k 0 ≤ v + 1 }
     ensures size { length seen.new ≡ length seen.old }
@@ -134,7 +134,7 @@ pub fn ring_lines(
     degrees: &[u16; 128],
     nexts: &mut [u16; 512],
 ) -> Result<usize, Refusal>
-    requires { (sheet.now.vertices ≤ 128) × (sheet.now.edges ≤ 256) × Apart sheet.now.edges sheet.now.tails sheet.now.heads × Counted sheet.now.edges sheet.now.tails sheet.now.heads degrees.now }
+    requires { EdgesRead sheet.now × Counted sheet.now.edges sheet.now.tails sheet.now.heads degrees.now }
     ensures { after_rings (with_nexts sheet.now nexts.new) result ≡ ring_lines sheet.now.vertices text.now (with_nexts sheet.now nexts.old) 0 start }
 {
     let mut seen = [0u16; 256];

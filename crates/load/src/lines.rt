@@ -2,7 +2,7 @@
 ghost use Rattle.std.specs.Prelude.{◌≡◌, ◌≤◌, ◌<◌, IfOk, length, get_or};
 ghost use Rattle.text.specs.Reading.{line_at};
 ghost use Rattle.load.specs.Load.{edge_lines};
-ghost use Rattle.load.specs.Inner.{count_of, one_more, Apart, Counted, after_edges};
+ghost use Rattle.load.specs.Inner.{count_of, one_more, EdgesRead, Counted, after_edges};
 
 use answers::Refusal;
 use sheet::Sheet;
@@ -45,7 +45,7 @@ pub fn edge_lines(
     requires { (sheet.old.vertices ≤ 128) × (sheet.old.edges ≤ 256) × Counted 0 sheet.old.tails sheet.old.heads degrees.old }
     ensures rest { after_edges text.now sheet.new result ≡ edge_lines sheet.old.edges text.now sheet.old 0 start }
     ensures counts { (sheet.new.vertices ≡ sheet.old.vertices) × (sheet.new.edges ≡ sheet.old.edges) }
-    ensures read { IfOk result (λ _. Apart sheet.new.edges sheet.new.tails sheet.new.heads × Counted sheet.new.edges sheet.new.tails sheet.new.heads degrees.new) }
+    ensures read { IfOk result (λ _. EdgesRead sheet.new × Counted sheet.new.edges sheet.new.tails sheet.new.heads degrees.new) }
 {
     let mut at = start;
     for k in 0..sheet.edges {

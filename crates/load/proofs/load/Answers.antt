@@ -9,9 +9,7 @@ pub edge_lines-requires : goal.edge_lines-requires
 edge_lines-requires c = (omega (arith, c.in_ok-vertices.ensures.within), omega (arith, c.in_ok-edges.ensures.within), counted_none (replicate 256 0) (replicate 256 0) (replicate 128 0) (zeros_at 128))
 
 pub ring_lines-requires : goal.ring_lines-requires
-ring_lines-requires c =
-    let read = c.in_ok-at.ensures in
-    (omega (arith, read.counts.0, c.in_ok-vertices.ensures.within), omega (arith, read.counts.1, c.in_ok-edges.ensures.within), read.read.0, read.read.1)
+ring_lines-requires c = c.in_ok-at.ensures.read
 
 pub returns-in_err-at-2 : goal.returns-in_err-at-2
 unfolding empty_sheet with_nexts

@@ -1,4 +1,4 @@
-use Rattle.std.proofs.Common.{◌≡◌, ℕ, ◌<◌, ◌≤◌, true, ◌≢◌, Some, sym, ◌∙◌, arith, length-set}
+use Rattle.std.proofs.Common.{◌≡◌, ℕ, ◌<◌, ◌≤◌, true, ◌≢◌, Some, sym, ◌∙◌, arith}
 use Rattle.clauses.proofs.Touching.{joins_means}
 use Rattle.load.specs.Load.{with_edge}
 use Rattle.load.proofs.Turns.{Joins, edges_more, apart_more}
@@ -34,9 +34,7 @@ loop-k-preserved c =
       rest = edges_more c.args.text.now sheet c.args.sheet.now.edges loop.k loop.at c.loop-k-test.true _ _ _ (sym got ∙ c.pair_line.ensures) joined ∙ inv.rest;
       vertices = inv.vertices;
       edges = inv.edges;
-      apart = apart_more loop.k _ _ sheet.tails sheet.heads (omega arith) (omega arith) apart inv.apart;
-      tails = simp length-set inv.tails;
-      heads = simp length-set inv.heads;
       degrees = omega arith;
+      apart = apart_more loop.k _ _ sheet.tails sheet.heads (omega arith) (omega arith) apart inv.apart;
       counted = rw (c.count_end-in-loop-k.ensures, c.count_end.ensures) (counted_more loop.k _ _ sheet.tails sheet.heads loop.degrees (omega arith) (omega arith) tail head apart inv.degrees inv.counted);
     }

@@ -8,9 +8,7 @@ invariant-loop-k l = record {
   rest : edge_lines (l.initial.sheet.edges - l.k) l.text l.sheet l.k l.at ≡ edge_lines l.initial.sheet.edges l.text l.initial.sheet 0 l.start;
   vertices : l.sheet.vertices ≡ l.initial.sheet.vertices;
   edges : l.sheet.edges ≡ l.initial.sheet.edges;
-  apart : Apart l.k l.sheet.tails l.sheet.heads;
-  tails : length l.sheet.tails ≡ 256;
-  heads : length l.sheet.heads ≡ 256;
   degrees : length l.degrees ≡ 128;
+  apart : Apart l.k l.sheet.tails l.sheet.heads;
   counted : Counted l.k l.sheet.tails l.sheet.heads l.degrees;
 }
