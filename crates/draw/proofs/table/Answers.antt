@@ -1,6 +1,6 @@
 -- `table` meets its contract. The first k entries are filled. Assumes nothing.
 use Rattle.std.proofs.Common.{arith}
-use Rattle.draw.proofs.Filling.{table_none, table_more, table_over}
+use Rattle.draw.proofs.Filling.{table_none, table_more}
 use Rattle.draw.proofs.table.Goals as goal
 
 pub loop-k-init : goal.loop-k-init
@@ -8,6 +8,3 @@ loop-k-init g c = λ of p. table_none of _ _
 
 pub loop-k-preserved : goal.loop-k-preserved
 loop-k-preserved g c = λ of p. table_more of _ _ c.loop-k.k (omega arith) _ (c.loop-k.invariant of p) _ (p c.loop-k.k _ c.loop-k-test.true c.entry.ensures)
-
-pub returns : goal.returns
-returns g c = λ of p. table_over of _ _ c.loop-k.k _ _ (c.loop-k.invariant of p) (omega arith) (omega arith)

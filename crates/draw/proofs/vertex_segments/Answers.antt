@@ -1,5 +1,5 @@
 -- `draw::vertex_segments` meets its contract. The segments reach as far as those of the first k edges that leave the vertices. Assumes nothing.
-use Rattle.std.proofs.Common.{◌<◌, ◌≡◌, refl, ◌∙◌, arith}
+use Rattle.std.proofs.Common.{◌≡◌, refl, ◌∙◌, arith}
 use Rattle.drawing.specs.Draw.{no_vertex_segment}
 use Rattle.draw.proofs.Filling.{table_agree}
 use Rattle.draw.proofs.Widening.{reached_none, widened_more, sink_put}
@@ -7,16 +7,6 @@ use Rattle.draw.proofs.vertex_segments.Goals as goal
 
 pub loop-k-init : goal.loop-k-init
 loop-k-init c = c.unreached-vertices.ensures ∙ table_agree _ 128 no_vertex_segment _ _ (λ v _. reached_none _ _ _ _ v)
-
-pub bounds-vertices-tail : goal.bounds-vertices-tail
-bounds-vertices-tail c =
-    let tail_in : c.from-tail.result < 128 = omega (arith, c.from-tail.ensures, c.requires.1, c.requires.2.inside c.loop-k.k c.loop-k-test.true) in
-    tail_in
-
-pub bounds-vertices-tail-in-loop-k : goal.bounds-vertices-tail-in-loop-k
-bounds-vertices-tail-in-loop-k c =
-    let tail_in : c.from-tail.result < 128 = omega (arith, c.from-tail.ensures, c.requires.1, c.requires.2.inside c.loop-k.k c.loop-k-test.true) in
-    tail_in
 
 pub loop-k-preserved : goal.loop-k-preserved
 loop-k-preserved c =
