@@ -11,30 +11,29 @@ ghost use Rattle.run.specs.Inner.{corner_of, Pair, Named, Room};
 
 use answers::Refusal;
 use clauses::dart_at;
-use counting::wide;
 use sheet::Sheet;
 
 // Whether edge k has an end at vertex v.
+#[tactic(auto, unfolding(clauses::specs::Darts::touches_of))]
 fn touches(tails: &[u16; 256], heads: &[u16; 256], k: usize, v: usize) -> bool
     requires { k < 256 }
     ensures { result ≡ touches_of tails.now heads.now k v }
 {
-    if wide(tails[k]) == v {
-        return true;
-    }
-    wide(heads[k]) == v
+    usize::from(tails[k]) == v || usize::from(heads[k]) == v
 }
 
 // The face that holds the other end of a dart's edge.
+#[tactic(auto, unfolding(clauses::specs::Darts::opposite))]
 fn across(faces: &[u16; 512], dart: u16) -> u16
     requires { dart < 512 }
     ensures { result ≡ get_or faces.now (opposite dart) 0 }
 {
-    let d = wide(dart);
+    let d = usize::from(dart);
     if d % 2 == 0 {
-        return faces[d + 1];
+        faces[d + 1]
+    } else {
+        faces[d - 1]
     }
-    faces[d - 1]
 }
 
 // The face of the corner after edge k at vertex v.

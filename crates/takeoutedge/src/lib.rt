@@ -7,7 +7,6 @@ ghost use Rattle.edit.specs.Changes.{last_edge_to, take_out_edge};
 ghost use Rattle.edit.specs.Calls.{take_out_edge_answer, take_out_edge_call};
 
 use answers::Refusal;
-use counting::wide;
 use sheet::Sheet;
 
 // How many of the first m ends are at vertex v.
@@ -85,14 +84,10 @@ fn take_out_edge_answer(s: Sheet, k: usize) -> Result<(), Refusal>
     if m == 2 {
         return Err(Refusal::EdgeNeeded);
     }
-    let tails = s.tails;
-    let tail = wide(tails[k]);
-    if degree(&tails, m, tail) == 1 {
+    if degree(&s.tails, m, usize::from(s.tails[k])) == 1 {
         return Err(Refusal::EdgeNeeded);
     }
-    let heads = s.heads;
-    let head = wide(heads[k]);
-    if degree(&heads, m, head) == 1 {
+    if degree(&s.heads, m, usize::from(s.heads[k])) == 1 {
         return Err(Refusal::EdgeNeeded);
     }
     Ok(())
