@@ -1,10 +1,5 @@
 -- The drawing of a sound sheet, laid out step by step from its rows and faces. Assumes nothing.
-use Prim.Native.Nat.{ℕ, ◌≤◌, ◌<◌}
-use mathlib.Core.Path.{◌≡◌, refl, ap, ◌∙◌}
-use mathlib.Core.List.{List}
-use native.Mathlib.Omega.{arith}
-use lib.ListN.{get_or}
-use Rattle.std.specs.Prelude.{Option, Some}
+use Rattle.std.proofs.Common.{ℕ, ◌≤◌, ◌<◌, ◌≡◌, refl, ap, ◌∙◌, List, arith, get_or, Option, Some}
 use Rattle.digraph.specs.Relaxed.{found, levels_of}
 use Rattle.soundness.proofs.Columns.{columns_acyclic}
 use Rattle.sheet.specs.declared.Sheet.{Sheet}

@@ -1,7 +1,5 @@
 -- Draw answers the drawing of a sound sheet. Assumes nothing.
-use Rattle.std.specs.Prelude.{Ok, Err}
-use mathlib.Core.Path.{◌≡◌, refl}
-use mathlib.Core.Bool.{true, false}
+use Rattle.std.proofs.Common.{◌≡◌, refl, true, Ok, Err, false}
 use Rattle.answers.specs.declared.Refusal.TheVariants.{NotSound}
 use Rattle.answers.specs.Refusals.{first, answering}
 use Rattle.sheet.specs.declared.Sheet.{Sheet}

@@ -1,10 +1,5 @@
 -- What write drawing answers, by what draw answered. Assumes nothing.
-use Rattle.std.specs.Prelude.{Result, Ok, Err}
-use Prim.Native.Nat.{ℕ, ◌≤◌, ◌<◌}
-use mathlib.Core.Path.{◌≡◌, refl, sym, ap, ◌∙◌}
-use mathlib.Core.Bool.{true, false}
-use mathlib.Core.List.{List}
-use lib.ListN.{length}
+use Rattle.std.proofs.Common.{ℕ, ◌≤◌, ◌<◌, ◌≡◌, refl, sym, ap, ◌∙◌, true, false, List, length, Result, Ok, Err}
 use Rattle.buffer.specs.Sinks.{Put}
 use Rattle.counting.proofs.Iterate.{by_bool}
 use Rattle.answers.specs.declared.Refusal.TheVariants.{NotSound, BufferTooShort}

@@ -1,11 +1,5 @@
 -- What a writer answers, and what it leaves in the buffer. Assumes nothing.
-use Rattle.std.specs.Prelude.{Result, Ok, Err}
-use Prim.Native.Nat.{ℕ, ◌≤◌, ◌<◌}
-use mathlib.Core.Path.{◌≡◌, refl, ap, ◌∙◌}
-use mathlib.Core.Bool.{true, false}
-use mathlib.Core.List.{List}
-use native.Mathlib.Nat.{zero-add}
-use lib.ListN.{length}
+use Rattle.std.proofs.Common.{ℕ, ◌≤◌, ◌<◌, ◌≡◌, refl, ap, ◌∙◌, true, false, List, zero-add, length, lt-ltb, le-ltb, Result, Ok, Err}
 use lib.Seq.{sets, sets-eq}
 use Rattle.buffer.specs.Sinks.{Put}
 use Rattle.sheet.specs.declared.Sheet.{Sheet}

@@ -1,6 +1,5 @@
 -- `draw::draw` meets its contract: a sheet that is not sound is refused, and the drawing of a sound one composed. Assumes nothing.
-use Rattle.std.proofs.Common.{◌≡◌, ◌∙◌, ap, refl, rules, Err}
-use native.Mathlib.Omega.{arith}
+use Rattle.std.proofs.Common.{rules, arith, ◌≡◌, ◌∙◌, ap, refl, Err}
 use Rattle.sheet.proofs.Found.{not_found}
 use Rattle.draw.proofs.Laying.{levels_found, leveled_from, first_in, from_rises, to_rises, all_small, all_laid}
 use Rattle.draw.proofs.Outcome.{not_sound, is_sound, found, edges_in}

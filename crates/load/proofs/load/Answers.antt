@@ -11,10 +11,10 @@ edge_lines-requires c = (omega (arith, c.in_ok-vertices.ensures.within), omega (
 pub ring_lines-requires : goal.ring_lines-requires
 ring_lines-requires c = c.in_ok-at.ensures.read
 
-pub returns-in_err-at-2 : goal.returns-in_err-at-2
+pub returns-in_err-taken : goal.returns-in_err-taken
 unfolding empty_sheet with_nexts
-returns-in_err-at-2 c = let rest = c.in_err-at-2.ensures ∙ c.in_ok-at.ensures.rest in grind (arith, common_steps, bars_steps, wires_steps)
+returns-in_err-taken c = let rest = c.in_err-taken.ensures ∙ c.in_ok-at.ensures.rest in grind (arith, common_steps, bars_steps, wires_steps)
 
-pub returns-then-not-is_accepted : goal.returns-then-not-is_accepted
+pub returns-in_err-judge : goal.returns-in_err-judge
 unfolding empty_sheet with_nexts
-returns-then-not-is_accepted c = let rest = c.in_ok-at-2.ensures ∙ c.in_ok-at.ensures.rest in grind (arith, common_steps, bars_steps, wires_steps, judged_steps)
+returns-in_err-judge c = let rest = c.in_ok-taken.ensures ∙ c.in_ok-at.ensures.rest in grind (arith, common_steps, bars_steps, wires_steps, judged_steps)
