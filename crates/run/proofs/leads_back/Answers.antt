@@ -1,6 +1,7 @@
 -- `run::leads_back` meets its contract. From vertex 0, or by the rows, or by the circles of the graph with edge 0 replaced. Assumes nothing.
 use Prim.Native.Nat.{◌<◌}
 use mathlib.Core.Path.{sym, ◌∙◌, ap}
+use Rattle.std.proofs.Math.Bool.{not, not-not}
 use Rattle.std.specs.Option.{is_none}
 use native.Mathlib.Omega.{arith}
 use Rattle.digraph.proofs.Relaxation.{is_none_found}
@@ -37,4 +38,4 @@ returns-then-rows-a c =
 
 pub returns : goal.returns
 returns c = let a = c.args in
-    c.is_none.ensures ∙ ap is_none c.levels.ensures ∙ is_none_found _ ∙ by_circle a.s a.a a.b c.requires.0 c.if-b-eq0.false
+    sym (not-not c.is_none.result) ∙ ap not (sym c.is_none.ensures) ∙ ap is_none c.levels.ensures ∙ is_none_found _ ∙ by_circle a.s a.a a.b c.requires.0 c.if-b-eq0.false
