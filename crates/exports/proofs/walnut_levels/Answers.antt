@@ -1,0 +1,18 @@
+-- `walnut_levels` meets its contract: the levels are found where there is no circle, and else are 0. Assumes nothing.
+use Rattle.std.proofs.Common.{◌≡◌, ℕ, Bool, true, false, List, is_some, refl, ap, ◌∙◌}
+use Rattle.std.specs.Bool.{then_some}
+use Rattle.std.specs.Option.{unwrap_or}
+use Rattle.digraph.specs.Digraph.{flat}
+use Rattle.digraph.proofs.Relaxation.{levels_or_flat}
+use Rattle.exports.proofs.walnut_levels.Goals as goal
+
+some_where : (b : Bool) (x : List ℕ) → is_some (then_some b x) ≡ b
+some_where true x = refl
+some_where false x = refl
+
+pub returns : goal.returns
+unfolding flat
+returns c = (
+  c.is_some.ensures ∙ ap is_some c.levels-found.ensures ∙ some_where _ _,
+  c.unwrap_or-levels.ensures ∙ ap (λ o. unwrap_or o flat) c.levels-found.ensures ∙ levels_or_flat _ _ _ _,
+)
