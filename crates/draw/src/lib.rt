@@ -11,7 +11,7 @@ use answers::Refusal;
 use drawing::{Drawing, EdgeSegment, VertexSegment};
 use sheet::Sheet;
 
-// An array whose first m entries a function gives; the others are `zero`.
+// An array whose first m entries a function gives; the others are `zero`. (`array::from_fn` would call it for all N.)
 fn table<T: Copy, const N: usize, F: Fn(usize) -> T>(m: usize, zero: T, entry: F) -> [T; N]
     requires few { m ≤ N }
     requires callable { (k : ℕ) → k < m → F.pre entry k }
@@ -88,7 +88,7 @@ fn widened(at: VertexSegment, column: u16, end: u16) -> VertexSegment
     }
 }
 
-// The segments of n vertices of which no edge was seen: the first edge narrows the first column, and widens the last.
+// The segments of n vertices of which no edge was seen: any column is less than the first one, `u16::MAX`.
 fn unreached(n: usize, rows: &[u16; 256]) -> [VertexSegment; 128]
     requires { n ≤ 128 }
     ensures { result ≡ table (unreached_from rows.now) n 128 no_vertex_segment }

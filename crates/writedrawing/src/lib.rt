@@ -22,7 +22,8 @@ fn put_vertices<S: Sink>(to: &mut S, n: usize, d: &Drawing)
     }
 }
 
-// Puts the lines `wire=` of m edges: an edge's column, its tail's row and its head's row.
+// Puts the lines `wire=` of m edges: an edge's column, its tail's row and its head's row. (One function for these and the bars would take a closure for the
+// numbers, and be longer than both.)
 fn put_edges<S: Sink>(to: &mut S, m: usize, d: &Drawing)
     requires few { m ≤ 256 }
     requires room { S.used to.old + length (join_below (edge_text d.now) m) ≤ S.size to.old }
