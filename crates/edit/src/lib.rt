@@ -62,6 +62,7 @@ fn numbers(text: &[u8], key: &[u8], count: usize) -> Option<[u16; 4]>
 }
 
 // The edit that the line at the front of a text reads as.
+// By values[0] and a second pattern: a pattern that takes an array apart inside `Some` gets no proof.
 #[tactic(auto, using(crate::proofs::Reading::edit_steps))]
 fn edit_of(text: &[u8]) -> Edit
     ensures { result ≡ edit_of text.now }
