@@ -153,7 +153,7 @@ pub bars_steps : (text : List ℕ) → parse text ≡ count_by (wires_of text) (
 unfolding parse
 bars_steps text = count_on (wires_of text) 128 (line_at bars_key text 0)
 
-pub ruleset edge_turns = (edges_over, edges_step, apart_more)
+pub ruleset edge_turns = (edges_over, edges_step)
 
 pub ruleset ring_turns = (rings_over, rings_step, zeros_at)
 

@@ -1,6 +1,6 @@
 // The lines `around=`: the edges of each vertex clockwise, read into the next-darts.
-ghost use Rattle.std.specs.Prelude.{ℕ, ◌≡◌, ◌+◌, ◌^◌, ◌≤◌, ◌<◌, [], IsTrue, IfOk, get_or, length};
-ghost use Rattle.text.specs.Reading.{number_at, line_at, listed, closed};
+ghost use Rattle.std.specs.Prelude.{ℕ, ◌≡◌, ◌+◌, ◌≤◌, ◌<◌, IsTrue, IfOk, get_or, length};
+ghost use Rattle.text.specs.Reading.{number_at, line_at, closed};
 ghost use Rattle.text.specs.Keys.{around_key};
 ghost use Rattle.load.specs.Load.{with_nexts, ring_lines};
 ghost use Rattle.load.specs.Inner.{EdgesRead, Counted, fits_of, edge_of, marks_of, is_listed, refusal_of, rest_at, end_of, ringed_by, ring_from, after_rings};

@@ -1,5 +1,5 @@
 // The lines of a sheet before its rings: the two counts, and the edges.
-ghost use Rattle.std.specs.Prelude.{◌≡◌, ◌≤◌, ◌<◌, IfOk, length, get_or};
+ghost use Rattle.std.specs.Prelude.{◌≡◌, ◌≤◌, ◌<◌, IfOk, get_or};
 ghost use Rattle.text.specs.Reading.{line_at};
 ghost use Rattle.load.specs.Load.{edge_lines};
 ghost use Rattle.load.specs.Inner.{count_of, one_more, EdgesRead, Counted, after_edges};
