@@ -93,7 +93,8 @@ impl Sorting {
     }
 }
 
-// The edges in a list for each node, of those out of it: the first at the node, and after each edge the next. 256 ends a list.
+// The edges in a list for each node, of those out of it: the first at the node, and after each edge the next. 256 ends a list: entries of type
+// Option<u8> were tried in its place, and `levels` took a fifth longer.
 #[derive(Clone, Copy)]
 struct Lists<'a> {
     edges: usize,
