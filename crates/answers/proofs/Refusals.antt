@@ -1,5 +1,5 @@
 -- Which refusal falls, and what acceptance says. Assumes nothing.
-use Rattle.std.proofs.Common.{◌≤◌, arith, ◌≡◌, refl, ◌↔◌, Bool, true, false, not, List, [], ◌∷◌, Result, Ok, Err}
+use Rattle.std.proofs.Common.{◌≤◌, arith, ◌≡◌, refl, ◌↔◌, Bool, true, false, not, List, [], ◌∷◌, Ok, Err}
 use Rattle.std.proofs.lemmas.Bool.{false≢true}
 use Rattle.answers.specs.declared.Refusal.{Refusal}
 use Rattle.answers.specs.declared.Refusal.TheVariants.{BadLayout, CountOutOfLimits, BadEdge, BadRotation, BadRoot, Cyclic, BadPoles, NotPlanar, NotSound, NotInSheet, Full, RootEdge, CornersApart, ClosesCircle, EdgeNeeded, VertexNeeded, BufferTooShort, InputTooLong}

@@ -2,17 +2,13 @@
 use Rattle.std.specs.Prelude.{Ok, Err}
 use Prim.Native.Nat.{ℕ}
 use mathlib.Core.Path.{◌≡◌, refl}
-use mathlib.Core.Logic.{◌≢◌}
-use mathlib.Core.Bool.{true, false}
 use mathlib.Core.List.{List, [], ◌∷◌}
-use Rattle.counting.proofs.Iterate.{by_bool, clash}
 use Rattle.answers.specs.Answers.{Answer, answer_number}
 use Rattle.answers.specs.Refusals.{answering}
 use Rattle.answers.specs.Clauses.{Clause, First}
 use Rattle.answers.proofs.Refusals.{refusal_nonzero}
 use Rattle.sheet.specs.declared.Sheet.{Sheet}
 use Rattle.sheet.specs.Fresh.{fresh_sheet}
-use Rattle.soundness.proofs.Tests.{Says, eq_says}
 use Rattle.soundness.proofs.Law.{sound_law}
 use Rattle.soundness.proofs.Fresh.{fresh_law, fresh_sized}
 use Rattle.load.specs.Load.{Parsed, load, returned}

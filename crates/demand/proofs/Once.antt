@@ -1,10 +1,9 @@
 -- What is laid down for an edit leaves one answer. Assumes nothing.
-use Prim.Native.Nat.{ℕ}
 use mathlib.Core.Path.{◌≡◌, refl, sym, ◌∙◌}
-use mathlib.Core.Logic.{inl, inr, by_cases}
-use mathlib.Core.List.{List, [], ◌∷◌}
+use mathlib.Core.Logic.{by_cases}
+use mathlib.Core.List.{List}
 use native.Mathlib.Decide.{ℕ_discrete}
-use Rattle.answers.specs.Clauses.{Clause, First}
+use Rattle.answers.specs.Clauses.{Clause}
 use Rattle.answers.proofs.Clauses.{first_once}
 use Rattle.sheet.specs.declared.Sheet.{Sheet}
 use Rattle.demand.specs.Calls.{Outcome}

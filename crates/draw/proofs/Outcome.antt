@@ -1,5 +1,5 @@
 -- What draw answers, from what the check of the sheet finds. Assumes nothing.
-use Rattle.std.proofs.Common.{ℕ, ◌<◌, ◌≤◌, ◌≡◌, refl, sym, ap, ◌∙◌, Bool, true, false, List, arith, replicate, Result, Ok, Err}
+use Rattle.std.proofs.Common.{ℕ, ◌<◌, ◌≤◌, ◌≡◌, refl, ap, true, false, List, arith, replicate, Result, Ok, Err}
 use Rattle.sheet.specs.declared.Sheet.{Sheet}
 use Rattle.sheet.specs.declared.Findings.{Findings}
 use Rattle.answers.specs.declared.Refusal.TheVariants.{NotSound}
@@ -15,7 +15,6 @@ use Rattle.drawing.specs.declared.VertexSegment.{VertexSegment}
 use Rattle.drawing.specs.declared.EdgeSegment.{EdgeSegment}
 use Rattle.drawing.specs.declared.Drawing.{Drawing}
 use Rattle.drawing.specs.Draw.{no_vertex_segment, no_edge_segment, drawing_of, zero_drawing, draw_answer, draw_call}
-
 
 -- a drawing, part by part; and that of zeros
 parted : (d : Drawing) (r c : ℕ) (vs : List VertexSegment) (es : List EdgeSegment) → d.rows ≡ r → d.columns ≡ c → d.vertices ≡ vs → d.edges ≡ es

@@ -1,5 +1,5 @@
 -- The loops over the lines, turn by turn: what is left to read gives what the whole gives. Assumes nothing.
-use Rattle.std.proofs.Common.{◌≡◌, ℕ, zero, suc, ◌+◌, ◌-◌, ◌<◌, ◌≤◌, Bool, true, false, cond, not, ◌&&◌, eqb, ltb, leb, ◌≢◌, List, [], ◌∷◌, length, get_or, set, replicate, Some, Ok, Err, Result, sym, refl, ◌∙◌, zero-add, arith, get_or-set_other, get_or-set_same, eq-eqb, eqb-true}
+use Rattle.std.proofs.Common.{◌≡◌, ℕ, zero, suc, ◌+◌, ◌-◌, ◌<◌, ◌≤◌, Bool, true, false, not, ◌&&◌, eqb, ltb, leb, ◌≢◌, List, [], ◌∷◌, length, get_or, set, replicate, Some, Ok, Err, Result, sym, refl, ◌∙◌, zero-add, arith, get_or-set_other, get_or-set_same, eq-eqb, eqb-true}
 use mathlib.Core.Logic.{by_cases}
 use mathlib.Core.Bool.{false≢true}
 use native.Mathlib.Decide.{ℕ_discrete}
@@ -17,7 +17,6 @@ use Rattle.answers.specs.declared.Refusal.{Refusal}
 use Rattle.answers.specs.declared.Refusal.TheVariants.{BadLayout, CountOutOfLimits, BadEdge, BadRotation}
 use Rattle.load.specs.Rings.{is_rotation, link_from, link_ring}
 use Rattle.load.specs.Load.{Parsed, empty_sheet, with_edge, with_nexts, judged, ring_lines, edge_lines, with_count, parse}
-use Rattle.load.specs.declared.Loaded.{Loaded}
 use Rattle.answers.specs.Refusals.{answering}
 use Rattle.sheet.specs.Check.{judge}
 use Rattle.load.specs.Inner.{count_of, Apart, fit_from, linked_from, linked, Ringed, ringed, unringed, linked_on, ring_from}

@@ -9,7 +9,12 @@ use sheet::Sheet;
 
 // A line with one count, from 2 to `most`: the count, and the place after the line.
 #[tactic(auto, using(crate::proofs::Turns::count_steps))]
-pub fn count_line(text: &[u8], at: usize, key: &[u8], most: usize) -> Result<(usize, usize), Refusal>
+pub fn count_line(
+    text: &[u8],
+    at: usize,
+    key: &[u8],
+    most: usize,
+) -> Result<(usize, usize), Refusal>
     ensures count { result ≡ count_of most (line_at key.now text.now at) }
     ensures within { IfOk result (λ r. r.0 ≤ most) }
 {

@@ -1,8 +1,8 @@
 -- What load accepts is sound. Assumes nothing.
 use Rattle.std.specs.Prelude.{Ok, Err}
-use mathlib.Core.Path.{◌≡◌, refl, sym, ◌∙◌, ap, subst}
+use mathlib.Core.Path.{◌≡◌, refl, ◌∙◌, subst}
 use mathlib.Core.Logic.{◌≢◌, by_cases}
-use mathlib.Core.Bool.{Bool, true, false, not, ◌&&◌, false≢true}
+use mathlib.Core.Bool.{Bool, true, false, not, ◌&&◌}
 use mathlib.Core.List.{List, [], ◌∷◌, ◌++◌}
 use Prim.Native.Nat.{ℕ, zero, suc, ◌+◌, ◌≤◌, ◌<◌}
 use native.Mathlib.Decide.{ℕ_discrete}
@@ -29,7 +29,6 @@ use Rattle.soundness.proofs.Law.{sound_law}
 use Rattle.load.specs.Rings.{is_rotation, link_ring}
 use Rattle.text.specs.Keys.{bars_key, wires_key, wire_key, around_key}
 use Rattle.load.specs.Load.{Parsed, empty_sheet, with_edge, with_nexts, judged, ring_lines, edge_lines, with_count, parse, load}
-use Rattle.load.specs.declared.Loaded.{Loaded}
 use Rattle.roundtrip.specs.Laws.{LoadedSound}
 use Rattle.roundtrip.proofs.Entries.{zeros_length, zeros_each}
 use Rattle.roundtrip.proofs.Around.{Around, around_law}

@@ -1,5 +1,4 @@
 -- A written sheet reads back as the same sheet. Assumes nothing.
-use Rattle.std.specs.Prelude.{Ok}
 use mathlib.Core.Path.{◌≡◌, refl, sym, ◌∙◌, ap, subst}
 use mathlib.Core.Logic.{by_cases}
 use mathlib.Core.Bool.{true}
@@ -20,7 +19,6 @@ use Rattle.layout.proofs.Standing.{stands_left, stands_right}
 use Rattle.layout.specs.Mixed.{MixedEnds}
 use Rattle.layout.proofs.Mixed.{mixed_same, mixed_parts, endless, mixed_read}
 use Rattle.sheet.specs.declared.Sheet.{Sheet}
-use Rattle.answers.specs.Answers.{refusal_number}
 use Rattle.answers.specs.Refusals.{answering}
 use Rattle.sheet.specs.Darts.{Sized, tail, head, darts, vertex, next}
 use Rattle.sheet.specs.Sound.{Joins, Sound}

@@ -1,13 +1,9 @@
 -- What write sheet leaves in its buffer loads as the sheet that was written. Assumes nothing.
 use Rattle.std.specs.Prelude.{Ok, Err}
-use mathlib.Core.Path.{◌≡◌, refl, ap, sym, ◌∙◌}
-use mathlib.Core.Logic.{◌≢◌}
+use mathlib.Core.Path.{◌≡◌, refl, ap, ◌∙◌}
 use mathlib.Core.List.{List}
 use Prim.Native.Nat.{ℕ}
-use native.Mathlib.Omega.{arith}
 use lib.ListN.{length, drop}
-use Rattle.counting.proofs.Iterate.{by_bool}
-use Rattle.answers.specs.declared.Refusal.TheVariants.{NotSound}
 use Rattle.answers.specs.Answers.{Answer}
 use Rattle.answers.specs.Refusals.{answering}
 use Rattle.sheet.specs.Check.{sound}

@@ -9,7 +9,7 @@ use native.Mathlib.Omega.{arith}
 use lib.Dec.{eqb}
 use borrow.Author.Tests.{le-leb, lt-leb, eq-eqb, ne_eqb}
 use Rattle.clauses.specs.Darts.{touches_of}
-use Rattle.counting.proofs.Iterate.{by_bool, not-false}
+use Rattle.counting.proofs.Iterate.{not-false}
 use Rattle.answers.specs.declared.Refusal.TheVariants.{NotSound, NotInSheet, CornersApart, ClosesCircle, Full}
 use Rattle.answers.specs.Answers.{Answer}
 use Rattle.answers.specs.Refusals.{first, ◌if◌}

@@ -3,8 +3,8 @@ use Rattle.std.specs.Prelude.{Result, Ok, Err, is_ok}
 use Prim.Native.Nat.{ℕ, ◌+◌, ◌*◌, ◌≤◌, ◌<◌}
 use mathlib.Core.Path.{◌≡◌, refl, sym, ap, ◌∙◌}
 use mathlib.Core.Logic.{◌≢◌}
-use mathlib.Core.Bool.{Bool, true, false, not, ◌&&◌, ◌||◌, cond, and-eq-true_iff, or-and_distrib_left, true≢false}
-use mathlib.Core.List.{List, [], ◌∷◌}
+use mathlib.Core.Bool.{Bool, true, false, ◌&&◌, ◌||◌, cond, and-eq-true_iff, or-and_distrib_left, true≢false}
+use mathlib.Core.List.{List}
 use native.Mathlib.Omega.{arith}
 use borrow.Author.Tests.{leb-true, eq-eqb, ne_eqb}
 use lib.Dec.{eqb, ltb, leb}
@@ -24,7 +24,7 @@ use Rattle.answers.specs.declared.Refusal.{Refusal}
 use Rattle.answers.specs.declared.Refusal.TheVariants.{BadRoot, Cyclic, BadPoles, NotPlanar, NotSound}
 use Rattle.sheet.specs.declared.Findings.{Findings}
 use Rattle.answers.specs.Answers.{Answer}
-use Rattle.answers.specs.Refusals.{first, is_accepted, ◌if◌, answering}
+use Rattle.answers.specs.Refusals.{first, answering}
 use Rattle.sheet.specs.Darts.{tail, head, darts}
 use Rattle.sheet.specs.Check.{within_limits, joined, in_rings, unused_zero, rooted, row_levels, acyclic, incoming, outgoing, poles, face_table, planar, sound, judge}
 use Rattle.sheet.specs.Inner.{findings_in, bounded, faced_of, judged_of, findings_of}

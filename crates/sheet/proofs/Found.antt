@@ -1,5 +1,5 @@
 -- What the check of a sheet found. Assumes nothing.
-use Rattle.std.proofs.Common.{◌≡◌, refl, Bool, true, false, cond, Ok, Err, Result}
+use Rattle.std.proofs.Common.{◌≡◌, true, false, Ok, Err, Result}
 use Rattle.answers.specs.declared.Refusal.{Refusal}
 use Rattle.answers.specs.declared.Refusal.TheVariants.{NotSound}
 use Rattle.counting.proofs.Iterate.{by_bool}

@@ -1,5 +1,5 @@
 -- What write drawing answers, by what draw answered. Assumes nothing.
-use Rattle.std.proofs.Common.{ℕ, ◌≤◌, ◌<◌, ◌≡◌, refl, sym, ap, ◌∙◌, true, false, List, length, Result, Ok, Err}
+use Rattle.std.proofs.Common.{ℕ, ◌≤◌, ◌<◌, ◌≡◌, true, false, List, length, Result, Ok, Err}
 use Rattle.buffer.specs.Sinks.{Put}
 use Rattle.counting.proofs.Iterate.{by_bool}
 use Rattle.answers.specs.declared.Refusal.TheVariants.{NotSound, BufferTooShort}

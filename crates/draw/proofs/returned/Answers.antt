@@ -1,5 +1,5 @@
 -- `draw::returned` meets its contract: the default of a drawing is the record of zeros. Assumes nothing.
-use Rattle.std.proofs.Common.{rules, ap, ◌∙◌, refl}
+use Rattle.std.proofs.Common.{rules, refl}
 use Rattle.drawing.specs.Draw.{no_vertex_segment, no_edge_segment, returned}
 use Rattle.draw.proofs.Filling.{all_same}
 use Rattle.draw.proofs.Outcome.{zeros}

@@ -1,4 +1,4 @@
-use Rattle.std.proofs.Common.{◌+◌, ◌≤◌, ◌<◌, ◌∙◌, length, arith}
+use Rattle.std.proofs.Common.{◌≤◌, ◌∙◌, length, arith}
 use Rattle.buffer.proofs.Writing.{left_all}
 use Rattle.program.proofs.Turns.{lines, lines_room, taken_some, taken_most, made_whole, accepted_turn, refused_room, refused_turn, end_room, end_put}
 use Rattle.program.proofs.put_edits.Goals as goal

@@ -24,5 +24,5 @@ returns c =
     let (s, answers) = made_all _ _ _ c.loop-i.invariant c.loop-i-test.false in
     let holds = demand (calls_of c.args.calls.now c.args.text.now) in
     let is : c.returned.result ≡ drawing_of (after_calls (calls_of c.args.calls.now c.args.text.now)) =
-        c.returned.ensures ∙ ap returned (c.draw.ensures ∙ ap draw_call s ∙ holds.drawn) in
+    c.returned.ensures ∙ ap returned (c.draw.ensures ∙ ap draw_call s ∙ holds.drawn) in
     record { drawn = holds.drawn ∙ ap Ok (sym is); answers = answers; holds = holds }

@@ -1,5 +1,5 @@
 -- `run::run_answer` meets its contract. Test by test, in order. Assumes nothing.
-use Rattle.std.proofs.Common.{◌≡◌, sym, ◌∙◌, ap, rules, Err}
+use Rattle.std.proofs.Common.{◌≡◌, ◌∙◌, ap, rules, Err}
 use Rattle.sheet.specs.declared.Findings.{Findings}
 use Rattle.sheet.specs.Inner.{findings_in}
 use Rattle.sheet.proofs.Found.{not_found, found_is}
@@ -35,8 +35,7 @@ returns-then-s-q c =
 pub join_answer-requires : goal.join_answer-requires
 unfolding findings_in
 join_answer-requires c =
-    let (is, f) = found_is _ _ c.examine.ensures _ c.in_ok-found.was in
-    (
+    let (is, f) = found_is _ _ c.examine.ensures _ c.in_ok-found.was in (
       record {
         sized = search rules;
         accepted = is;
