@@ -9,18 +9,11 @@ ghost use Rattle.plate.specs.Streams.{AppendsFront};
 
 use std::io::{self, Read, Write};
 
-// One byte more than an input may have: one that fills it is refused 18, and the rest is not read.
-fn input_buffer() -> [u8; 16385]
-    ensures { 16385 ≡ length result }
+// A buffer of N bytes.
+fn buffer<const N: usize>() -> [u8; N]
+    ensures { N ≡ length result }
 {
-    [0; 16385]
-}
-
-// As long as the longest output.
-fn output_buffer() -> [u8; 187031]
-    ensures { 187031 ≡ length result }
-{
-    [0; 187031]
+    [0; N]
 }
 
 // Reads until the buffer is full or the input ends, and returns how many bytes there were; or fails as a read fails.
@@ -60,7 +53,8 @@ fn answer<W: Write>(writer: &mut W, input: &[u8]) -> bool
     ensures front { AppendsFront (W.contents writer.old) (W.contents writer.new) (plate_output input.now) }
     ensures whole { result ≡ true → Appends (W.contents writer.old) (W.contents writer.new) (plate_output input.now) }
 {
-    let mut output = output_buffer();
+    // As long as the longest output.
+    let mut output = buffer::<187031>();
     let count = program::plate(input, &mut output).unwrap_or(0);
     write_bytes(writer, &output[..count]) == count
 }
@@ -70,7 +64,8 @@ fn run<R: Read, W: Write>(reader: &mut R, writer: &mut W) -> bool
     ensures front { IfSome (R.remaining reader.old) (λ input. AppendsFront (W.contents writer.old) (W.contents writer.new) (plate_output input)) }
     ensures whole { result ≡ true → IfSome (R.remaining reader.old) (λ input. Appends (W.contents writer.old) (W.contents writer.new) (plate_output input)) }
 {
-    let mut input = input_buffer();
+    // One byte more than an input may have: one that fills it is refused 18, and the rest is not read.
+    let mut input = buffer::<16385>();
     match read_input(reader, &mut input) {
         Ok(count) => answer(writer, &input[..count]),
         Err(_) => false,

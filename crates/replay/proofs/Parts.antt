@@ -1,4 +1,4 @@
--- A part of a text, the calls that are left, and the answers that are put. Assumes nothing.
+-- A part of a text, numbers that are no call, and the answers that are put. Assumes nothing.
 use Prim.Native.Nat.{ℕ, ◌+◌, ◌-◌, ◌*◌, ◌≤◌, ◌<◌, min}
 use mathlib.Core.Path.{◌≡◌, refl, sym, ◌∙◌, ap}
 use mathlib.Core.Logic.{by_cases}
@@ -42,37 +42,8 @@ part_is text start end to from t f = part_of text from to (omega arith) (omega a
 
 -- ---- the calls that are left
 
-next_cons : (l : List ℕ) (k k' : ℕ) → k' ≡ k + 1 → k < length l → drop k l ≡ get_or l k 0 ∷ drop k' l
-next_cons l k k' e h = drop-cons l k 0 h ∙ ap (λ n. get_or l k 0 ∷ drop n l) (sym (e ∙ add-one k))
-
-next_five : (l : List ℕ) (k : ℕ) → k + 5 ≤ length l
-    → drop k l ≡ get_or l k 0 ∷ get_or l (k + 1) 0 ∷ get_or l (k + 2) 0 ∷ get_or l (k + 3) 0 ∷ get_or l (k + 4) 0 ∷ drop (k + 5) l
-next_five l k h =
-    next_cons l k (k + 1) refl (omega arith)
-    ∙ ap (λ r. get_or l k 0 ∷ r) (next_cons l (k + 1) (k + 2) (omega arith) (omega arith)
-    ∙ ap (λ r. get_or l (k + 1) 0 ∷ r) (next_cons l (k + 2) (k + 3) (omega arith) (omega arith)
-    ∙ ap (λ r. get_or l (k + 2) 0 ∷ r) (next_cons l (k + 3) (k + 4) (omega arith) (omega arith)
-    ∙ ap (λ r. get_or l (k + 3) 0 ∷ r) (next_cons l (k + 4) (k + 5) (omega arith) (omega arith)))))
-
--- call i of the numbers
-abbrev pub call_at : List ℕ → List ℕ → ℕ → Call
-call_at numbers text k = call_by (get_or numbers k 0) (get_or numbers (k + 1) 0) (get_or numbers (k + 2) 0) (get_or numbers (k + 3) 0) (get_or numbers (k + 4) 0) text
-
--- the calls from call i on
-unfoldable pub calls_from : List ℕ → List ℕ → ℕ → List Call
-calls_from numbers text i = calls_of (drop (5 * i) numbers) text
-
-pub calls_all : (numbers text : List ℕ) → calls_from numbers text 0 ≡ calls_of numbers text
-unfolding calls_from
-calls_all numbers text = refl
-
-pub calls_next : (numbers text : List ℕ) (i : ℕ) → 5 * i + 5 ≤ length numbers → calls_from numbers text i ≡ call_at numbers text (5 * i) ∷ calls_from numbers text (i + 1)
-unfolding calls_from calls_of
-calls_next numbers text i h =
-    let e : 5 * i + 5 ≡ 5 * (i + 1) = omega arith in
-    ap (λ l. calls_of l text) (next_five numbers (5 * i) h) ∙ ap (λ n. call_at numbers text (5 * i) ∷ calls_of (drop n numbers) text) e
-
-short : (text l : List ℕ) → length l < 5 → calls_of l text ≡ []
+-- fewer than five numbers are no call
+pub short : (text l : List ℕ) → length l < 5 → calls_of l text ≡ []
 unfolding calls_of
 short text [] h = refl
 short text (_ ∷ []) h = refl
@@ -81,9 +52,14 @@ short text (_ ∷ _ ∷ _ ∷ []) h = refl
 short text (_ ∷ _ ∷ _ ∷ _ ∷ []) h = refl
 short text (_ ∷ _ ∷ _ ∷ _ ∷ _ ∷ l) h = absurd (omega arith)
 
-pub calls_over : (numbers text : List ℕ) (i : ℕ) → length numbers < 5 * i + 5 → calls_from numbers text i ≡ []
-unfolding calls_from
-calls_over numbers text i h = short text (drop (5 * i) numbers) (omega (arith, length-drop (5 * i) numbers))
+-- five numbers and the rest
+pub five : (l : List ℕ) → 5 ≤ length l → l ≡ get_or l 0 0 ∷ get_or l 1 0 ∷ get_or l 2 0 ∷ get_or l 3 0 ∷ get_or l 4 0 ∷ take (length l - 5) (drop 5 l)
+five [] h = absurd (omega arith)
+five (_ ∷ []) h = absurd (omega arith)
+five (_ ∷ _ ∷ []) h = absurd (omega arith)
+five (_ ∷ _ ∷ _ ∷ []) h = absurd (omega arith)
+five (_ ∷ _ ∷ _ ∷ _ ∷ []) h = absurd (omega arith)
+five (a ∷ b ∷ c ∷ d ∷ e ∷ l) h = ap (λ r. a ∷ b ∷ c ∷ d ∷ e ∷ r) (sym (take_all (length (a ∷ b ∷ c ∷ d ∷ e ∷ l) - 5) l (omega arith)))
 
 -- ---- the answers that are put
 

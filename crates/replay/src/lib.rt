@@ -23,18 +23,12 @@ struct Reply {
     taken: usize,
 }
 
-fn lesser(a: usize, b: usize) -> usize
-    ensures { result ≡ min a b }
-{
-    if a < b { a } else { b }
-}
-
 // Loads the part of the text from a start up to an end.
 fn load_part(text: &[u8], start: usize, end: usize) -> Result<Loaded, Refusal>
     ensures { result ≡ load (slice start end text.now) }
 {
-    let to = lesser(end, text.len());
-    let from = lesser(start, to);
+    let to = end.min(text.len());
+    let from = start.min(to);
     load::load(&text[from..to])
 }
 
@@ -98,20 +92,13 @@ pub fn replay(calls: &[usize], text: &[u8], answers: &mut [usize]) -> Drawing
 {
     let mut s = sheet::fresh();
     let mut i = 0;
-    while 5 * i + 5 <= calls.len() {
-        let k = 5 * i;
-        let reply = step(
-            calls[k],
-            calls[k + 1],
-            calls[k + 2],
-            calls[k + 3],
-            calls[k + 4],
-            text,
-            s,
-        );
+    let mut left = calls;
+    while let [kind, a, p, b, q, rest @ ..] = left {
+        let reply = step(*kind, *a, *p, *b, *q, text, s);
         put_pair(answers, i, reply.number, reply.taken);
         s = reply.sheet;
         i += 1;
+        left = rest;
     }
     draw::returned(draw::draw(s))
 }

@@ -18,7 +18,7 @@ slice_bounds-write_bytes-end g c = sym (length-take-le _ _ (omega (arith, c.unwr
 in_front : (g : Over) (c : goal.After-write_bytes g) → take c.unwrap_or-count.result c.plate.new.buffer ≡ plate_output c.args.input.now
 in_front g c =
     rw (c.unwrap_or-count.ensures, c.plate.ensures.0, c.plate.ensures.1)
-    (output_in_front _ _ (omega (arith, c.output_buffer-output.ensures)))
+    (output_in_front _ _ (omega (arith, c.buffer-output.ensures)))
 
 pub returns-clause-front : goal.returns-clause-front
 returns-clause-front g c = (c.write_bytes.result, subst (λ l. Appends (g.W.Write.contents c.args.writer.now) (g.W.Write.contents c.write_bytes.new.writer) (take c.write_bytes.result l)) (in_front g c) c.write_bytes.ensures.written)

@@ -8,7 +8,7 @@ use Rattle.plate.proofs.run.Goals as goal
 same : (g : Over) (c : goal.After-answer g)
     → IfSome (g.R.Read.remaining c.args.reader.now) (λ whole. plate_output (take c.in-Ok.count c.read_input.new.input) ≡ plate_output whole)
 same g c = same_output _ _ _ c.in-Ok.ensures.bytes
-    (λ short. c.in-Ok.ensures.all (omega (arith, c.in-Ok.ensures.in_bounds.1, c.read_input.auto.input, c.input_buffer-input.ensures)))
+    (λ short. c.in-Ok.ensures.all (omega (arith, c.in-Ok.ensures.in_bounds.1, c.read_input.auto.input, c.buffer-input.ensures)))
 
 pub returns-in-Ok-clause-front : goal.returns-in-Ok-clause-front
 returns-in-Ok-clause-front g c = appends_front _ _ _ _ (same g c) c.answer.ensures.front
