@@ -5,12 +5,11 @@ use mathlib.Core.Logic.{by_cases}
 use mathlib.Core.List.{List, [], ◌∷◌, ◌++◌, append_assoc}
 use native.Mathlib.Decide.{dec_le}
 use native.Mathlib.Omega.{arith}
-use native.Mathlib.Numerals.{add-one}
-use lib.ListN.{get_or, set, take, drop, length, length-append, length-drop, drop_of_length-le}
-use lib.Seq.{slice, take_all, take-add, drop_at, drop-cons, length-take-le, set_at, append_snoc}
+use lib.ListN.{get_or, set, take, drop, length, length-append, drop_of_length-le}
+use lib.Seq.{slice, take_all, take-add, drop_at, length-take-le, set_at, append_snoc}
 use borrow.Author.Tests.{le-leb, lt-leb}
-use Rattle.demand.specs.Calls.{Call, Outcome}
-use Rattle.replay.specs.Encoded.{call_by, calls_of}
+use Rattle.demand.specs.Calls.{Outcome}
+use Rattle.replay.specs.Encoded.{calls_of}
 use Rattle.replay.specs.Replayed.{answers_put}
 use Rattle.replay.specs.Inner.{pair_put, answers_from}
 
