@@ -8,6 +8,11 @@ use mathlib.Core.List.{List, [], ◌∷◌}
 use native.Mathlib.Omega.{arith}
 use lib.Dec.{eqb}
 use borrow.Author.Tests.{le-leb, lt-leb, eq-eqb, ne_eqb}
+use mathlib.Core.Logic.{by_cases}
+use mathlib.Core.Bool.{Bool, ◌&&◌, and-eq-true_iff, true≢false}
+use native.Mathlib.Decide.{dec_lt}
+use lib.Dec.{ltb}
+use borrow.Author.Tests.{lt-ltb, ltb-true}
 use Rattle.clauses.specs.Darts.{touches_of}
 use Rattle.counting.proofs.Iterate.{not-false}
 use Rattle.answers.specs.declared.Refusal.TheVariants.{NotSound, NotInSheet, CornersApart, ClosesCircle, Full}
@@ -162,3 +167,33 @@ module _ {s : Sheet} {faces : List ℕ} {a p b q : ℕ} (g : Named s faces a p b
 
 -- a law for each answer from the two corners on
 pub ruleset join_answers = (first_apart, second_apart, corners_apart, same_vertex, closes, no_room, accepted)
+
+-- the vertices and edges that a call names
+module _ (s : Sheet) (a p b q : ℕ) where
+  abbrev pub AreNamed : Type 0
+  AreNamed = (a < s.vertices) × (b < s.vertices) × (p < s.edges) × (q < s.edges)
+
+  abbrev pub all_named : Bool
+  all_named = ltb a s.vertices && ltb b s.vertices && ltb p s.edges && ltb q s.edges
+
+  pub are_named : all_named ≡ true → AreNamed
+  are_named t =
+      let (x, iq) = (and-eq-true_iff _ _).0 t in
+      let (y, ip) = (and-eq-true_iff _ _).0 x in
+      let (ia, ib) = (and-eq-true_iff _ _).0 y in
+      (ltb-true a s.vertices ia, ltb-true b s.vertices ib, ltb-true p s.edges ip, ltb-true q s.edges iq)
+
+  pub not_named : sound s ≡ true → all_named ≡ false → Err NotInSheet ≡ run_answer s a p b q
+  not_named S e =
+      by_cases (dec_lt a s.vertices)
+      (λ ia.
+      by_cases (dec_lt b s.vertices)
+      (λ ib.
+      by_cases (dec_lt p s.edges)
+      (λ ip.
+      by_cases (dec_lt q s.edges)
+      (λ iq. absurd (true≢false (sym (rw (lt-ltb a s.vertices ia, lt-ltb b s.vertices ib, lt-ltb p s.edges ip, lt-ltb q s.edges iq) refl) ∙ e)))
+      (λ n. no_second s a p b q S ia ib ip (omega arith)))
+      (λ n. no_first s a p b q S ia ib (omega arith)))
+      (λ n. no_end s a p b q S ia (omega arith)))
+      (λ n. no_start s a p b q S (omega arith))

@@ -1,7 +1,7 @@
 // Run: an edge more, between two corners of one face.
 #![tactic(auto)]
 
-ghost use Rattle.std.specs.Prelude.{◌≡◌, ◌<◌, get_or};
+ghost use Rattle.std.specs.Prelude.{◌≡◌, ◌<◌, ◌&&◌, ltb, get_or};
 ghost use Rattle.clauses.specs.Darts.{opposite, touches_of};
 ghost use Rattle.sheet.specs.Check.{row_levels};
 ghost use Rattle.edit.specs.Reaching.{leads_to};
@@ -89,21 +89,19 @@ fn add_edge(s: Sheet, a: usize, p: usize, b: usize, q: usize) -> Sheet
     }
 }
 
+// Whether vertices a and b and edges p and q are in the sheet.
+fn are_named(s: &Sheet, a: usize, p: usize, b: usize, q: usize) -> bool
+    ensures { result ≡ (ltb a s.now.vertices && ltb b s.now.vertices && ltb p s.now.edges && ltb q s.now.edges) }
+{
+    a < s.vertices && b < s.vertices && p < s.edges && q < s.edges
+}
+
 // What run refuses, in order.
 fn run_answer(s: Sheet, a: usize, p: usize, b: usize, q: usize) -> Result<(), Refusal>
     ensures { result ≡ run_answer s a p b q }
 {
     let found = sheet::examine(s)?;
-    if s.vertices <= a {
-        return Err(Refusal::NotInSheet);
-    }
-    if s.vertices <= b {
-        return Err(Refusal::NotInSheet);
-    }
-    if s.edges <= p {
-        return Err(Refusal::NotInSheet);
-    }
-    if s.edges <= q {
+    if !are_named(&s, a, p, b, q) {
         return Err(Refusal::NotInSheet);
     }
     join_answer(s, &found.faces, &found.rows, a, p, b, q)
