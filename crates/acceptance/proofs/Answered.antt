@@ -28,7 +28,7 @@ use Rattle.soundness.proofs.Rings.{rings_rotation, rings_law}
 use Rattle.soundness.proofs.Faces.{planar_law}
 use Rattle.soundness.proofs.Law.{circle_law}
 use Rattle.load.specs.Rings.{is_rotation, link_ring}
-use Rattle.load.specs.Load.{Parsed, empty_sheet, with_edge, with_nexts, judged, ring_lines, edge_lines, with_count, parse, returned}
+use Rattle.load.specs.Load.{Parsed, empty_sheet, with_edge, with_nexts, judged, ring_lines, edge_lines, with_count, load, returned}
 use Rattle.roundtrip.proofs.Around.{around_law}
 use Rattle.roundtrip.proofs.Linking.{link_anew}
 use Rattle.roundtrip.proofs.Loaded.{pick_each, Edged, edge_says, edge_read, empty_read, Ringed, ring_read, none_ringed, whole_sized, whole_lined}
@@ -157,8 +157,8 @@ module _ (text : List ℕ) (present : Sheet) where
       Answered : Parsed → Type 0
       Answered p = WiresLine text present (result present p) n at
 
-  bars_answered : BarsLine text present (result present (parse text)) 0
-  unfolding parse with_count result returned answer_number refusal_number
+  bars_answered : BarsLine text present (result present (load text)) 0
+  unfolding load with_count result returned answer_number refusal_number
   bars_answered = one_shaped (line_reads bars_key text 0) Answered _ _ (λ f. no_bars f refl) (λ n after L.
       pick_each Answered (leb 2 n && leb n 128) _ _
       (λ t. bars L (inside 128 n (within 128 n t)) (wires_answered n after (within 128 n t)))

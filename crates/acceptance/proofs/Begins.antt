@@ -19,7 +19,7 @@ use Rattle.sheet.specs.declared.Sheet.{Sheet}
 use Rattle.sheet.specs.Darts.{dart_at, tail, head}
 use Rattle.sheet.specs.Sound.{Sound}
 use Rattle.writesheet.specs.Rings.{rotation}
-use Rattle.load.specs.Load.{Parsed, parse, load, returned}
+use Rattle.load.specs.Load.{Parsed, load, returned}
 use Rattle.load.specs.declared.Loaded.{Loaded}
 use Rattle.roundtrip.proofs.Around.{Around}
 use Rattle.roundtrip.proofs.Laid.{Laid, cyclic, cyclic_entry}
@@ -114,7 +114,7 @@ module _ (n : ℕ) (tails heads : List ℕ) (rings : List (List ℕ)) (s : Sheet
 load_begins : (text : List ℕ) (l : Loaded) → load text ≡ Ok l → Begins text
 unfolding result returned answer_number
 load_begins text l e =
-    let all = all_lines text l.sheet (result l.sheet (parse text)) (ap answer_number e) (load_answered text l.sheet) in
+    let all = all_lines text l.sheet (result l.sheet (load text)) (ap answer_number e) (load_answered text l.sheet) in
     let w = all.wires_each in
     let a = w.around_each in
     let (z, S) = loaded_sound text l e in

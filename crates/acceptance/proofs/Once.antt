@@ -18,7 +18,7 @@ use Rattle.answers.proofs.Refusals.{refusal_nonzero}
 use Rattle.sheet.specs.declared.Sheet.{Sheet}
 use Rattle.sheet.specs.Check.{judge}
 use Rattle.load.specs.Rings.{is_rotation, link_ring}
-use Rattle.load.specs.Load.{Parsed, empty_sheet, with_edge, with_nexts, judged, ring_lines, edge_lines, with_count, parse, returned}
+use Rattle.load.specs.Load.{Parsed, empty_sheet, with_edge, with_nexts, judged, ring_lines, edge_lines, with_count, load, returned}
 use Rattle.roundtrip.proofs.Around.{around_law}
 use Rattle.roundtrip.proofs.Linking.{link_anew}
 use Rattle.roundtrip.proofs.Loaded.{pick_each, Edged, edge_says, edge_read, empty_read, Ringed, ring_read, none_ringed, whole_lined}
@@ -114,8 +114,8 @@ module _ (text : List ℕ) (present : Sheet) (r : Result) where
       (λ t. let (c, d) = within 256 m t in edges_once m (empty_sheet n m) 0 after [] [] (omega arith) (empty_read n m a b c d) (none_said (empty_sheet n m)) A)
       (λ t. absurd (o (not_within 256 m t))))
 
-  bars_once : BarsLine text present r 0 → Is (parse text)
-  unfolding parse with_count result returned answer_number refusal_number
+  bars_once : BarsLine text present r 0 → Is (load text)
+  unfolding load with_count result returned answer_number refusal_number
   bars_once (no_bars f e) = one_none (line_reads bars_key text 0) Is _ _ f e
   bars_once (bad_bars {n} L o e) = one_read (line_reads bars_key text 0) Is _ _ L (pick_each Is (leb 2 n && leb n 128) _ _ (λ t. absurd (inside 128 n (within 128 n t) o)) (λ t. e))
   bars_once (bars {n} {after} L o W) = one_read (line_reads bars_key text 0) Is _ _ L (pick_each Is (leb 2 n && leb n 128) _ _ (λ t. wires_once n after (within 128 n t) W) (λ t. absurd (o (not_within 128 n t))))

@@ -15,7 +15,7 @@ use Rattle.answers.specs.declared.Refusal.{Refusal}
 use Rattle.answers.specs.Answers.{refusal_number}
 use Rattle.sheet.specs.declared.Sheet.{Sheet}
 use Rattle.load.specs.Rings.{is_rotation, link_ring}
-use Rattle.load.specs.Load.{Parsed, empty_sheet, with_edge, with_nexts, ring_lines, edge_lines, with_count, parse}
+use Rattle.load.specs.Load.{Parsed, empty_sheet, with_edge, with_nexts, ring_lines, edge_lines, with_count, load}
 use Rattle.examples.specs.Described.{rings_from, edges_from, described, Read, DescribedLaw}
 use Rattle.examples.specs.Described.Read.{last_line, refused_line}
 
@@ -86,7 +86,7 @@ edges_read (suc r) text s k at = two s (line_at wire_key text at) _ _ (λ a b ne
     read_if (ltb a s.vertices && ltb b s.vertices && not (eqb a b)) edge (edges_read r text (with_edge s k a b) (k + 1) next))
 
 pub described_law : DescribedLaw
-unfolding described parse
+unfolding described load
 described_law text =
     one (empty_sheet 0 0) (line_at bars_key text 0) 128 _ _ (λ n next.
     one (empty_sheet n 0) (line_at wires_key text next) 256 _ _ (λ m after.

@@ -7,7 +7,7 @@ use Rattle.answers.specs.declared.Refusal.{Refusal}
 use Rattle.answers.specs.Answers.{refusal_number}
 use Rattle.sheet.specs.declared.Sheet.{Sheet}
 use Rattle.load.specs.Rings.{link_ring}
-use Rattle.load.specs.Load.{Parsed, empty_sheet, with_edge, with_nexts, judged, parse}
+use Rattle.load.specs.Load.{Parsed, empty_sheet, with_edge, with_nexts, judged, load}
 
 -- r lines `around=` from bar v on, at a place; a line of another layout, here and below, ends the sheet
 unfoldable pub rings_from : ℕ → List ℕ → Sheet → ℕ → ℕ → Sheet
@@ -33,4 +33,4 @@ pub data Read (s : Sheet) : Parsed → Type 0 where
   refused_line : (r : Refusal) → 1 ≤ refusal_number r → refusal_number r ≤ 4 → Read s (Err r)
 
 abbrev pub DescribedLaw : Type 0
-DescribedLaw = (text : List ℕ) → Read (described text) (parse text)
+DescribedLaw = (text : List ℕ) → Read (described text) (load text)

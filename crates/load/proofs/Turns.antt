@@ -16,7 +16,7 @@ use Rattle.sheet.specs.declared.Sheet.{Sheet}
 use Rattle.answers.specs.declared.Refusal.{Refusal}
 use Rattle.answers.specs.declared.Refusal.TheVariants.{BadLayout, CountOutOfLimits, BadEdge, BadRotation}
 use Rattle.load.specs.Rings.{is_rotation, link_from, link_ring}
-use Rattle.load.specs.Load.{Parsed, empty_sheet, with_edge, with_nexts, judged, ring_lines, edge_lines, with_count, parse}
+use Rattle.load.specs.Load.{Parsed, empty_sheet, with_edge, with_nexts, judged, ring_lines, edge_lines, with_count, load}
 use Rattle.answers.specs.Refusals.{answering}
 use Rattle.sheet.specs.Check.{judge}
 use Rattle.load.specs.Inner.{count_of, Apart, fit_from, linked_from, linked, Ringed, ringed, unringed, linked_on, ring_from}
@@ -148,8 +148,8 @@ wires_steps text n next = count_on (edges_of text n) 256 (line_at wires_key text
 abbrev wires_of : List ℕ → ℕ → ℕ → Parsed
 wires_of text n next = with_count (line_at wires_key text next) 256 (edges_of text n)
 
-pub bars_steps : (text : List ℕ) → parse text ≡ count_by (wires_of text) (count_of 128 (line_at bars_key text 0))
-unfolding parse
+pub bars_steps : (text : List ℕ) → load text ≡ count_by (wires_of text) (count_of 128 (line_at bars_key text 0))
+unfolding load
 bars_steps text = count_on (wires_of text) 128 (line_at bars_key text 0)
 
 pub ruleset edge_turns = (edges_over, edges_step)

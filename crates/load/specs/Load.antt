@@ -55,14 +55,11 @@ with_count line most good =
     with_one line (Err BadLayout) (λ n next. pick (leb 2 n && leb n most) (λ _. good n next) (λ _. Err CountOutOfLimits))
 
 -- the lines `bars=n` and `wires=m`, and what follows them
-unfoldable pub parse : List ℕ → Parsed
-parse text =
+unfoldable pub load : List ℕ → Parsed
+load text =
     with_count (line_at bars_key text 0) 128 (λ n next.
     with_count (line_at wires_key text next) 256 (λ m after.
     edge_lines m text (empty_sheet n m) 0 after))
-
-abbrev pub load : List ℕ → Result Loaded Refusal
-load text = parse text
 
 -- what load returns beside its answer: refused, the present sheet comes back, and 0 bytes are taken
 unfoldable pub returned : Sheet → Parsed → Loaded

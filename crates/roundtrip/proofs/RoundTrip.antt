@@ -28,7 +28,7 @@ use Rattle.soundness.proofs.Law.{sound_law}
 use Rattle.text.specs.Keys.{bars_key, wires_key, wire_key, around_key}
 use Rattle.load.specs.Rings.{is_rotation, link_ring}
 use Rattle.writesheet.specs.Rings.{rotation}
-use Rattle.load.specs.Load.{Parsed, empty_sheet, with_edge, with_nexts, judged, ring_lines, edge_lines, with_count, parse, parsed, load}
+use Rattle.load.specs.Load.{Parsed, empty_sheet, with_edge, with_nexts, judged, ring_lines, edge_lines, with_count, parsed, load}
 use Rattle.writesheet.specs.Write.{sheet_lines, sheet_text}
 use Rattle.roundtrip.specs.Laws.{RoundTripLaw, MixedRoundTrip}
 use Rattle.roundtrip.proofs.Entries.{zeros, zeros_length, zeros_each, Filled, filled_none, filled_more, filled_all}
@@ -136,8 +136,8 @@ module _ (s : Sheet) (z : Sized s) (S : Sound s) (ring : ℕ → List ℕ) (rota
   placed_none = record { sized = zeros_length 512; done = λ d h l. absurd (omega arith); unused = λ d h. zeros_each 512 d }
 
   -- the whole text stands at the front
-  parse_back : (text us : List ℕ) → MixedEnds (sheet_lines s ring) us → Stands text 0 us → parse text ≡ parsed s (length us)
-  unfolding parse empty_sheet partly join_below endless
+  parse_back : (text us : List ℕ) → MixedEnds (sheet_lines s ring) us → Stands text 0 us → load text ≡ parsed s (length us)
+  unfolding load empty_sheet partly join_below endless
   parse_back text us m H =
       let last = mixed_parts (bars ++ wires ++ edges) rings us m in
       let third = mixed_parts (bars ++ wires) edges last.front last.front_mixed in
