@@ -1,14 +1,9 @@
 -- A text that load accepts is that of a sound sheet, each ring turned, and any bytes after it. Assumes nothing.
-use mathlib.Core.Path.{◌≡◌, refl, sym, ◌∙◌, ap, subst}
-use mathlib.Core.Logic.{◌≢◌, by_cases}
-use mathlib.Core.List.{List, [], ◌∷◌, ◌++◌, append_assoc, append-nil}
-use Prim.Native.Nat.{ℕ, ◌+◌, ◌≤◌, ◌<◌}
-use native.Mathlib.Decide.{ℕ_discrete}
-use native.Mathlib.Numerals.{add-one}
-use native.Mathlib.Nat.{zero-add}
-use native.Mathlib.Omega.{arith}
-use lib.ListN.{get_or, length, take, drop, length-append, get_or-append, take-append-drop}
-use lib.Seq.{get_or_at, get_or-take, ext_get_or, length-take-le}
+use Rattle.std.proofs.Common.{◌≡◌, refl, sym, ◌∙◌, ap, subst, ◌≢◌, List, [], ◌∷◌, ◌++◌, append_assoc, append-nil, ℕ, ◌+◌, ◌≤◌, ◌<◌, add-one, zero-add, arith, get_or, length, take, drop, length-append, take-append-drop, get_or-take, ext_get_or, length-take-le}
+use Rattle.std.proofs.Math.Logic.{by_cases}
+use Rattle.std.proofs.Math.Decide.{ℕ_discrete}
+use Rattle.std.proofs.Math.ListN.{get_or-append}
+use Rattle.std.proofs.Math.Seq.{get_or_at}
 use Rattle.counting.specs.Below.{join_below}
 use Rattle.text.specs.Written.{separated, line}
 use Rattle.text.specs.Keys.{bars_key, wires_key, wire_key, around_key}
@@ -17,8 +12,8 @@ use Rattle.layout.specs.Mixed.{MixedEnds}
 use Rattle.layout.specs.Mixed.MixedEnds.{over}
 use Rattle.layout.proofs.Standing.{stands_nil, stands_append}
 use Rattle.layout.proofs.Mixed.{mixed_append, line_mixed}
-use Rattle.roundtrip.proofs.Standing.{joined_agree}
-use Rattle.sheet.specs.declared.Sheet.{Sheet}
+use Rattle.counting.proofs.Joined.{join_agree}
+use Rattle.clauses.specs.declared.Sheet.{Sheet}
 use Rattle.acceptance.specs.Loading.{Result, refusal, ItsWires, Describes, AroundLines, WireLines, WiresLine, BarsLine}
 use Rattle.acceptance.specs.Loading.AroundLines.{no_around, bad_around, around, refused_last, accepted_last}
 use Rattle.acceptance.specs.Loading.WireLines.{no_wire, bad_wire, wire, last_wire}
@@ -30,7 +25,7 @@ use Rattle.acceptance.specs.Loading.BarsLine.{no_bars, bad_bars, bars}
 -- one text more
 joined_more : (f g : ℕ → List ℕ) (k : ℕ) (ds : List ℕ) → ((i : ℕ) → i < k → f i ≡ g i) → g k ≡ ds → join_below f k ++ ds ≡ join_below g (k + 1)
 unfolding join_below
-joined_more f g k ds h e = rw (add-one k, joined_agree f g k h, e) refl
+joined_more f g k ds h e = rw (add-one k, join_agree f g k h, e) refl
 
 -- the line of wire k, of bar v
 unfoldable pub wire_line : List ℕ → List ℕ → ℕ → List ℕ

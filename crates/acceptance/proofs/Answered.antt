@@ -1,14 +1,8 @@
 -- Load answers as laid down. Assumes nothing.
-use Rattle.std.specs.Prelude.{Ok, Err}
-use mathlib.Core.Path.{◌≡◌, refl, sym, ◌∙◌, subst}
-use mathlib.Core.Logic.{inl, inr, by_cases}
-use mathlib.Core.Bool.{true, false, not, ◌&&◌, false≢true}
-use mathlib.Core.List.{List, [], ◌∷◌, ◌++◌}
-use Prim.Native.Nat.{ℕ, zero, suc, ◌+◌, ◌≤◌, ◌<◌}
-use native.Mathlib.Decide.{dec_le}
-use native.Mathlib.Omega.{arith}
-use lib.Dec.{eqb, ltb, leb}
-use lib.ListN.{get_or, length, length-append}
+use Rattle.std.proofs.Common.{Ok, Err, ◌≡◌, refl, sym, ◌∙◌, subst, inl, inr, true, false, not, ◌&&◌, List, [], ◌∷◌, ◌++◌, ℕ, zero, suc, ◌+◌, ◌≤◌, ◌<◌, arith, eqb, ltb, leb, get_or, length, length-append}
+use Rattle.std.proofs.Math.Logic.{by_cases}
+use Rattle.std.proofs.lemmas.Bool.{false≢true}
+use Rattle.std.proofs.Math.Decide.{dec_le}
 use Rattle.clauses.specs.Darts.{touches_of}
 use Rattle.text.specs.Reading.{line_at}
 use Rattle.text.specs.Keys.{bars_key, wires_key, wire_key, around_key}
@@ -19,11 +13,11 @@ use Rattle.answers.specs.Clauses.{First}
 use Rattle.answers.proofs.Refusals.{refusal_nonzero}
 use Rattle.answers.proofs.Clauses.{Agree, first_number}
 use Rattle.answers.proofs.Clauses.Agree.{none, then}
-use Rattle.sheet.specs.declared.Sheet.{Sheet}
+use Rattle.clauses.specs.declared.Sheet.{Sheet}
 use Rattle.sheet.specs.Check.{judge, rooted, acyclic, poles, planar}
 use Rattle.soundness.specs.Laws.{Lined}
 use Rattle.soundness.proofs.Tests.{le_says, and_says, not_says}
-use Rattle.soundness.proofs.Clauses.{limits_law, joined_law, rooted_law, poles_law}
+use Rattle.soundness.proofs.Clauses.{limits_law, joined_law, rooted_law, poles_law, edge_says}
 use Rattle.soundness.proofs.Rings.{rings_rotation, rings_law}
 use Rattle.soundness.proofs.Faces.{planar_law}
 use Rattle.soundness.proofs.Law.{circle_law}
@@ -31,7 +25,7 @@ use Rattle.load.specs.Rings.{is_rotation, link_ring}
 use Rattle.load.specs.Load.{Parsed, empty_sheet, with_edge, with_nexts, judged, ring_lines, edge_lines, with_count, load, returned}
 use Rattle.roundtrip.proofs.Around.{around_law}
 use Rattle.roundtrip.proofs.Linking.{link_anew}
-use Rattle.roundtrip.proofs.Loaded.{pick_each, Edged, edge_says, edge_read, empty_read, Ringed, ring_read, none_ringed, whole_sized, whole_lined}
+use Rattle.roundtrip.proofs.Loaded.{pick_each, Edged, edge_read, empty_read, Ringed, ring_read, none_ringed, whole_sized, whole_lined}
 use Rattle.acceptance.specs.Loading.{Result, Outside, Describes, after_last, AroundLines, WireLines, WiresLine, BarsLine}
 use Rattle.acceptance.specs.Loading.AroundLines.{no_around, bad_around, around, refused_last, accepted_last}
 use Rattle.acceptance.specs.Loading.WireLines.{no_wire, bad_wire, wire, last_wire}

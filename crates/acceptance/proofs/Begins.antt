@@ -1,21 +1,16 @@
 -- Load accepts exactly the texts that begin with a sound sheet, each ring turned anyhow, with line ends of both kinds. Assumes nothing.
-use Rattle.std.specs.Prelude.{Ok, Err, is_ok, true}
-use mathlib.Core.Path.{◌≡◌, refl, sym, ◌∙◌, ap, subst}
-use mathlib.Core.Logic.{by_cases}
-use mathlib.Core.List.{List, [], ◌∷◌, ◌++◌}
-use Prim.Native.Nat.{ℕ, suc, ◌<◌}
-use native.Mathlib.Decide.{dec_lt}
-use native.Mathlib.Omega.{arith}
+use Rattle.std.proofs.Common.{Ok, Err, is_ok, true, ◌≡◌, refl, sym, ◌∙◌, ap, subst, List, [], ◌∷◌, ◌++◌, ℕ, suc, ◌<◌, arith, get_or, length, drop}
+use Rattle.std.proofs.Math.Logic.{by_cases}
+use Rattle.std.proofs.Math.Decide.{dec_lt}
 use Rattle.std.proofs.lemmas.Bool.{false≢true}
-use lib.ListN.{get_or, length, drop}
-use lib.Seq.{get_or_at}
+use Rattle.std.proofs.Math.Seq.{get_or_at}
 use Rattle.clauses.specs.Darts.{End}
 use Rattle.counting.specs.Below.{join_below}
 use Rattle.text.specs.Written.{line}
 use Rattle.text.specs.Keys.{bars_key, wires_key, wire_key, around_key}
 use Rattle.layout.specs.Mixed.{MixedEnds}
 use Rattle.answers.specs.Answers.{answer_number}
-use Rattle.sheet.specs.declared.Sheet.{Sheet}
+use Rattle.clauses.specs.declared.Sheet.{Sheet}
 use Rattle.sheet.specs.Darts.{dart_at, tail, head}
 use Rattle.sheet.specs.Sound.{Sound}
 use Rattle.writesheet.specs.Rings.{rotation}
@@ -25,7 +20,7 @@ use Rattle.roundtrip.proofs.Around.{Around}
 use Rattle.roundtrip.proofs.Laid.{Laid, cyclic, cyclic_entry}
 use Rattle.roundtrip.proofs.Loaded.{loaded_sound}
 use Rattle.roundtrip.proofs.RoundTrip.{lines_back}
-use Rattle.roundtrip.proofs.Standing.{joined_agree}
+use Rattle.counting.proofs.Joined.{join_agree}
 use Rattle.acceptance.specs.Loading.{Describes, After, ItsWires}
 use Rattle.acceptance.specs.Loading.After.{on_line, around_again}
 use Rattle.acceptance.specs.Laws.{turned, turned_text, Begins, LoadAccepts, LoadGives}
@@ -89,8 +84,8 @@ module _ (n : ℕ) (tails heads : List ℕ) (rings : List (List ℕ)) (s : Sheet
   lines_turned turn f m e =
       let edges : s.edges ≡ m = D.edges ∙ e in
       rw (
-        joined_agree (wire_line tails heads) (λ k. line wire_key (tail s k ∷ head s k ∷ [])) m (λ k h. rw (D.its_tails k (omega arith), D.its_heads k (omega arith)) refl),
-        joined_agree (ring_line rings) (λ v. line around_key (turned (turn v) (rotation s v))) n (λ v h. ap (line around_key) (f v h)),
+        join_agree (wire_line tails heads) (λ k. line wire_key (tail s k ∷ head s k ∷ [])) m (λ k h. rw (D.its_tails k (omega arith), D.its_heads k (omega arith)) refl),
+        join_agree (ring_line rings) (λ v. line around_key (turned (turn v) (rotation s v))) n (λ v h. ap (line around_key) (f v h)),
         ← D.vertices,
         ← edges,
       ) refl

@@ -1,27 +1,15 @@
 -- The lines describe one sheet. Assumes nothing.
-use mathlib.Core.Path.{◌≡◌, refl, sym, ◌∙◌}
-use mathlib.Core.Logic.{by_cases}
-use mathlib.Core.Bool.{Bool, true, false}
-use mathlib.Core.List.{List, []}
-use Prim.Native.Nat.{ℕ, suc, ◌≤◌, ◌<◌}
-use native.Mathlib.Decide.{dec_lt}
-use native.Mathlib.Omega.{arith}
-use lib.ListN.{get_or, length}
-use lib.Seq.{ext_get_or}
+use Rattle.std.proofs.Common.{◌≡◌, refl, sym, ◌∙◌, Bool, true, false, List, [], ℕ, suc, ◌<◌, arith, get_or, length}
+use Rattle.std.proofs.Math.Logic.{by_cases}
+use Rattle.std.proofs.Math.Decide.{dec_lt}
 use Rattle.clauses.specs.Darts.{End}
-use Rattle.sheet.specs.declared.Sheet.{Sheet}
-use Rattle.sheet.specs.Darts.{sheet_of, darts, next}
-use Rattle.soundness.proofs.Darts.{dart, by_dart}
+use Rattle.clauses.specs.declared.Sheet.{Sheet}
+use Rattle.sheet.specs.Darts.{next}
+use Rattle.soundness.proofs.Darts.{dart, by_dart, same_parts}
 use Rattle.acceptance.specs.Loading.{ItsWires, Describes}
 use Rattle.clauses.specs.Darts.End.{at_tail, at_head}
 use Rattle.acceptance.specs.Loading.After.{on_line, around_again}
-
-same_parts : {n n' m m' : ℕ} {t t' h h' x x' : List ℕ} → n ≡ n' → m ≡ m' → t ≡ t' → h ≡ h' → x ≡ x' → sheet_of n m t h x ≡ sheet_of n' m' t' h' x'
-same_parts a b c d e = rw (a, b, c, d, e) refl
-
--- two lists of one length that agree below k and are 0 from there on
-same_list : (l l' : List ℕ) (k n : ℕ) → length l ≡ n → length l' ≡ n → ((i : ℕ) → i < k → get_or l i 0 ≡ get_or l' i 0) → ((i : ℕ) → k ≤ i → get_or l i 0 ≡ 0) → ((i : ℕ) → k ≤ i → get_or l' i 0 ≡ 0) → l ≡ l'
-same_list l l' k n a b f p q = ext_get_or 0 l l' (a ∙ sym b) (λ i _. by_cases (dec_lt i k) (f i) (λ h. p i (omega arith) ∙ sym (q i (omega arith))))
+use Rattle.roundtrip.proofs.Entries.{filled_all}
 
 module _ {n : ℕ} {tails heads : List ℕ} {rings : List (List ℕ)} (tails_in : (k : ℕ) → k < length tails → get_or tails k 0 < n) (heads_in : (k : ℕ) → k < length tails → get_or heads k 0 < n)
     (its : (v : ℕ) → v < n → ItsWires tails heads v (get_or rings v [])) where
@@ -40,8 +28,10 @@ module _ {n : ℕ} {tails heads : List ℕ} {rings : List (List ℕ)} (tails_in 
       let m = D.edges in
       let m' = D'.edges in
       same_parts (D.vertices ∙ sym D'.vertices) (m ∙ sym m')
-      (same_list s.tails s'.tails (length tails) 256 D.sized.tails D'.sized.tails (λ k h. D.its_tails k h ∙ sym (D'.its_tails k h)) (λ k h. D.unused.tails k (omega arith)) (λ k h. D'.unused.tails k (omega arith)))
-      (same_list s.heads s'.heads (length tails) 256 D.sized.heads D'.sized.heads (λ k h. D.its_heads k h ∙ sym (D'.its_heads k h)) (λ k h. D.unused.heads k (omega arith)) (λ k h. D'.unused.heads k (omega arith)))
-      (same_list s.nexts s'.nexts (darts s) 512 D.sized.nexts D'.sized.nexts
-      (by_dart s (λ d. next s d ≡ next s' d) (λ b k h. let (e, f) = followed_dart b k (omega arith) in f s D ∙ sym (f s' D')))
-      D.unused.nexts (λ d h. D'.unused.nexts d (omega arith)))
+      (filled_all (λ k h. D'.unused.tails k (omega arith)) (record { sized = D.sized.tails ∙ sym D'.sized.tails; front = λ k h. D.its_tails k h ∙ sym (D'.its_tails k h); rest = λ k h. D.unused.tails k (omega arith) }))
+      (filled_all (λ k h. D'.unused.heads k (omega arith)) (record { sized = D.sized.heads ∙ sym D'.sized.heads; front = λ k h. D.its_heads k h ∙ sym (D'.its_heads k h); rest = λ k h. D.unused.heads k (omega arith) }))
+      (filled_all (λ d h. D'.unused.nexts d (omega arith)) (record {
+        sized = D.sized.nexts ∙ sym D'.sized.nexts;
+        front = by_dart s (λ d. next s d ≡ next s' d) (λ b k h. let (e, f) = followed_dart b k (omega arith) in f s D ∙ sym (f s' D'));
+        rest = D.unused.nexts;
+      }))

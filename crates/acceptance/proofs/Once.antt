@@ -1,12 +1,6 @@
 -- No answer but load's is as laid down. Assumes nothing.
-use Rattle.std.specs.Prelude.{Ok, Err}
-use mathlib.Core.Path.{◌≡◌, refl, sym, ◌∙◌, ap, subst}
-use mathlib.Core.Bool.{not, ◌&&◌, false≢true}
-use mathlib.Core.List.{List, [], ◌∷◌, ◌++◌}
-use Prim.Native.Nat.{ℕ, zero, suc, ◌+◌, ◌≤◌, ◌<◌}
-use native.Mathlib.Omega.{arith}
-use lib.Dec.{eqb, ltb, leb}
-use lib.ListN.{get_or, length, length-append}
+use Rattle.std.proofs.Common.{Ok, Err, ◌≡◌, refl, sym, ◌∙◌, ap, subst, not, ◌&&◌, List, [], ◌∷◌, ◌++◌, ℕ, zero, suc, ◌+◌, ◌≤◌, ◌<◌, arith, eqb, ltb, leb, get_or, length, length-append}
+use Rattle.std.proofs.lemmas.Bool.{false≢true}
 use Rattle.clauses.specs.Darts.{touches_of}
 use Rattle.text.specs.Reading.{line_at}
 use Rattle.text.specs.Keys.{bars_key, wires_key, wire_key, around_key}
@@ -15,13 +9,13 @@ use Rattle.answers.specs.Refusals.{answering}
 use Rattle.answers.specs.Clauses.{First}
 use Rattle.answers.proofs.Clauses.{first_once}
 use Rattle.answers.proofs.Refusals.{refusal_nonzero}
-use Rattle.sheet.specs.declared.Sheet.{Sheet}
+use Rattle.clauses.specs.declared.Sheet.{Sheet}
 use Rattle.sheet.specs.Check.{judge}
 use Rattle.load.specs.Rings.{is_rotation, link_ring}
 use Rattle.load.specs.Load.{Parsed, empty_sheet, with_edge, with_nexts, judged, ring_lines, edge_lines, with_count, load, returned}
 use Rattle.roundtrip.proofs.Around.{around_law}
 use Rattle.roundtrip.proofs.Linking.{link_anew}
-use Rattle.roundtrip.proofs.Loaded.{pick_each, Edged, edge_says, edge_read, empty_read, Ringed, ring_read, none_ringed, whole_lined}
+use Rattle.roundtrip.proofs.Loaded.{pick_each, Edged, edge_read, empty_read, Ringed, ring_read, none_ringed, whole_lined}
 use Rattle.acceptance.specs.Loading.{Result, refusal, acceptance, Describes, after_last, AroundLines, WireLines, WiresLine, BarsLine}
 use Rattle.acceptance.specs.Loading.AroundLines.{no_around, bad_around, around, refused_last, accepted_last}
 use Rattle.acceptance.specs.Loading.WireLines.{no_wire, bad_wire, wire, last_wire}
@@ -32,6 +26,7 @@ use Rattle.layout.proofs.Shapes.{line_reads, one_none, one_read, two_none, two_r
 use Rattle.acceptance.proofs.Said.{Said, none_said, said_more, wire_bad, wire_good, around_its, its_around}
 use Rattle.acceptance.proofs.Answered.{result, judged_first, described, within, not_within, inside}
 use Rattle.acceptance.proofs.Described.{described_once}
+use Rattle.soundness.proofs.Clauses.{edge_says}
 
 module _ (text : List ℕ) (present : Sheet) (r : Result) where
   abbrev Is : Parsed → Type 0

@@ -1,19 +1,14 @@
 -- What the lines have said, and the sheet record that is filled from it. Assumes nothing.
-use mathlib.Core.Path.{◌≡◌, refl, sym, ◌∙◌, ap, subst}
-use mathlib.Core.Logic.{◌≢◌, ◌⊎◌, inl, inr, by_cases}
-use mathlib.Core.Bool.{true}
-use mathlib.Core.List.{List, [], ◌∷◌, ◌++◌}
-use Prim.Native.Nat.{ℕ, suc, ◌+◌, ◌<◌}
-use native.Mathlib.Decide.{ℕ_discrete, dec_lt}
-use native.Mathlib.Omega.{arith}
-use borrow.Author.Tests.{eq-eqb, ne_eqb}
-use lib.ListN.{get_or, length, set, length-append, get_or-append}
-use lib.Seq.{get_or-set_same, get_or-set_other, get_or_at}
-use Rattle.clauses.specs.Darts.{touches_of, dart_of, End, HasEnd}
-use Rattle.sheet.specs.declared.Sheet.{Sheet}
+use Rattle.std.proofs.Common.{◌≡◌, refl, sym, ◌∙◌, ap, subst, ◌≢◌, inl, inr, true, List, [], ◌∷◌, ◌++◌, ℕ, suc, ◌+◌, ◌<◌, arith, eq-eqb, ne_eqb, get_or, length, set, length-append, get_or-set_same, get_or-set_other}
+use Rattle.std.proofs.Math.Logic.{by_cases}
+use Rattle.std.proofs.Math.Decide.{ℕ_discrete, dec_lt}
+use Rattle.std.proofs.Math.ListN.{get_or-append}
+use Rattle.std.proofs.Math.Seq.{get_or_at}
+use Rattle.clauses.specs.Darts.{dart_of, End, HasEnd}
+use Rattle.clauses.specs.declared.Sheet.{Sheet}
 use Rattle.sheet.specs.Darts.{tail, head, touches, dart_at}
 use Rattle.sheet.specs.Sound.{Joins}
-use Rattle.soundness.proofs.Tests.{Says, eq_says, or_says}
+use Rattle.soundness.proofs.Ends.{touches_says}
 use Rattle.load.specs.Load.{with_edge}
 use Rattle.roundtrip.proofs.Around.{Around}
 use Rattle.roundtrip.proofs.Laid.{Laid, cyclic, cyclic_entry}
@@ -59,18 +54,14 @@ wire_good n a b ((h, l), m) (inr (inl q)) = omega arith
 wire_good n a b ((h, l), m) (inr (inr q)) = m q
 
 module _ (s : Sheet) (tails heads : List ℕ) (S : Said s s.edges tails heads) where
-  touch_says : (k v : ℕ) → Says (touches s k v) ((tail s k ≡ v) ⊎ (head s k ≡ v))
-  unfolding touches_of
-  touch_says k v = or_says (eq_says (tail s k) v) (eq_says (head s k) v)
-
   -- an end that the lines name is one of the record
   pub end_touch : {v k : ℕ} → k < s.edges → HasEnd tails heads k v → touches s k v ≡ true
-  end_touch {v} {k} h (d, at_tail e q) = (touch_says k v).1 (inl (S.its_tails k h ∙ e))
-  end_touch {v} {k} h (d, at_head e q) = (touch_says k v).1 (inr (S.its_heads k h ∙ e))
+  end_touch {v} {k} h (d, at_tail e q) = (touches_says s k v).1 (inl (S.its_tails k h ∙ e))
+  end_touch {v} {k} h (d, at_head e q) = (touches_says s k v).1 (inr (S.its_heads k h ∙ e))
 
   pub touch_end : {v k : ℕ} → k < s.edges → touches s k v ≡ true → HasEnd tails heads k v
   touch_end {v} {k} h t =
-      elim ((touch_says k v).0 t) [ inl e ↦ (_, at_tail (sym (S.its_tails k h) ∙ e) refl) | inr e ↦ (_, at_head (sym (S.its_heads k h) ∙ e) refl) ]
+      elim ((touches_says s k v).0 t) [ inl e ↦ (_, at_tail (sym (S.its_tails k h) ∙ e) refl) | inr e ↦ (_, at_head (sym (S.its_heads k h) ∙ e) refl) ]
 
   pub around_its : {v : ℕ} {ws : List ℕ} → Around s v ws → ItsWires tails heads v ws
   around_its A = record {

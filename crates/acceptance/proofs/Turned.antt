@@ -1,15 +1,11 @@
 -- A ring that begins anywhere. Assumes nothing.
-use mathlib.Core.Path.{◌≡◌, refl, sym, ◌∙◌, ap, subst}
-use mathlib.Core.Logic.{by_cases}
-use mathlib.Core.List.{List, ◌++◌}
-use Prim.Native.Nat.{ℕ, ◌+◌, ◌-◌, ◌/◌, ◌≤◌, ◌<◌}
-use native.Mathlib.Decide.{dec_lt, dec_le}
-use native.Mathlib.Omega.{arith}
-use lib.ListN.{get_or, length, take, drop, length-append, length-drop, drop_of_length-le, get_or-append}
-use lib.Seq.{length-take-le, take_all, get_or-take, get_or-drop, get_or-append-add, ext_get_or}
+use Rattle.std.proofs.Common.{◌≡◌, refl, sym, ◌∙◌, ap, subst, List, ◌++◌, ℕ, ◌+◌, ◌-◌, ◌/◌, ◌≤◌, ◌<◌, arith, get_or, length, take, drop, length-append, length-drop, drop_of_length-le, length-take-le, take_all, get_or-take, get_or-drop, get_or-append-add, ext_get_or}
+use Rattle.std.proofs.Math.Logic.{by_cases}
+use Rattle.std.proofs.Math.Decide.{dec_lt, dec_le}
+use Rattle.std.proofs.Math.ListN.{get_or-append}
 use Rattle.counting.specs.Orbits.{iter}
 use Rattle.counting.proofs.Iterate.{iter_add}
-use Rattle.sheet.specs.declared.Sheet.{Sheet}
+use Rattle.clauses.specs.declared.Sheet.{Sheet}
 use Rattle.sheet.specs.Darts.{darts, dart_at, next}
 use Rattle.sheet.specs.Sound.{Sound}
 use Rattle.soundness.proofs.Ends.{EndAt, at_edge, end_at_law}

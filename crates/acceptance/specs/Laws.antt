@@ -2,7 +2,7 @@
 use Rattle.std.specs.Prelude.{◌≡◌, ◌↔◌, List, ◌++◌, ℕ, length, take, drop, true, Ok, is_ok}
 use Rattle.layout.specs.Mixed.{MixedEnds}
 use Rattle.answers.specs.Answers.{answer_number}
-use Rattle.sheet.specs.declared.Sheet.{Sheet}
+use Rattle.clauses.specs.declared.Sheet.{Sheet}
 use Rattle.sheet.specs.Darts.{Sized}
 use Rattle.sheet.specs.Sound.{Sound}
 use Rattle.writesheet.specs.Rings.{rotation}

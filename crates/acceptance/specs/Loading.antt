@@ -5,7 +5,7 @@ use Rattle.text.specs.Keys.{bars_key, wires_key, wire_key, around_key}
 use Rattle.layout.specs.Layout.{LineAt}
 use Rattle.answers.specs.Clauses.{Clause, ◌when◌, First}
 use Rattle.clauses.specs.Darts.{End, HasEnd}
-use Rattle.sheet.specs.declared.Sheet.{Sheet}
+use Rattle.clauses.specs.declared.Sheet.{Sheet}
 use Rattle.sheet.specs.Darts.{Sized, tail, head, next}
 use Rattle.sheet.specs.Sound.{Unused, Leads, Poles, Euler}
 

@@ -4,55 +4,37 @@
 ghost use Rattle.std.specs.Prelude.{◌≡◌};
 ghost use Rattle.answers.specs.Answers.{refusal_number, answer_number};
 
-// What a call refuses. The numbers of document 01 stand in specs/Answers.antt. A call answers with a Result: its value, or its refusal.
+// What a call refuses, and its number: those of document 01, as in specs/Answers.antt. A call answers with a Result: its value, or its refusal.
 #[derive(Clone, Copy, Debug, PartialEq, Eq)]
 pub enum Refusal {
-    BadLayout,
-    CountOutOfLimits,
-    BadEdge,
-    BadRotation,
-    BadRoot,
-    Cyclic,
-    BadPoles,
-    NotPlanar,
-    NotSound,
-    NotInSheet,
-    Full,
-    RootEdge,
-    CornersApart,
-    ClosesCircle,
-    EdgeNeeded,
-    VertexNeeded,
-    BufferTooShort,
-    InputTooLong,
+    BadLayout = 1,
+    CountOutOfLimits = 2,
+    BadEdge = 3,
+    BadRotation = 4,
+    BadRoot = 5,
+    Cyclic = 6,
+    BadPoles = 7,
+    NotPlanar = 8,
+    NotSound = 9,
+    NotInSheet = 10,
+    Full = 11,
+    RootEdge = 12,
+    CornersApart = 13,
+    ClosesCircle = 14,
+    EdgeNeeded = 15,
+    VertexNeeded = 16,
+    BufferTooShort = 17,
+    InputTooLong = 18,
 }
 
 impl Refusal {
-    // The refusal number.
+    // The refusal number. A method that names it: `From` would be no plainer, as a u16 may be any number.
     #[tactic(auto, unfolding(crate::specs::Answers::refusal_number))]
     pub fn number(self) -> u16
         ensures { result ≡ refusal_number self }
     {
-        match self {
-            Refusal::BadLayout => 1,
-            Refusal::CountOutOfLimits => 2,
-            Refusal::BadEdge => 3,
-            Refusal::BadRotation => 4,
-            Refusal::BadRoot => 5,
-            Refusal::Cyclic => 6,
-            Refusal::BadPoles => 7,
-            Refusal::NotPlanar => 8,
-            Refusal::NotSound => 9,
-            Refusal::NotInSheet => 10,
-            Refusal::Full => 11,
-            Refusal::RootEdge => 12,
-            Refusal::CornersApart => 13,
-            Refusal::ClosesCircle => 14,
-            Refusal::EdgeNeeded => 15,
-            Refusal::VertexNeeded => 16,
-            Refusal::BufferTooShort => 17,
-            Refusal::InputTooLong => 18,
-        }
+        // `as`: it alone gives the number of a variant.
+        self as u16
     }
 }
 

@@ -8,7 +8,8 @@ use answers::Refusal;
 use edit::Edit;
 use sheet::Sheet;
 
-// Applies an edit, whichever it is; a line that is not of the layout is refused 1.
+// Applies an edit, whichever it is; a line that is not of the layout is refused 1. The specification asks for this match by name. The calls by kinds, of numbers of any size, match by themselves: an `Edit`
+// holds what a line can give.
 #[tactic(auto, unfolding(edit::specs::Calls::apply, answers::specs::Refusals::answering))]
 pub fn apply(s: Sheet, e: Edit) -> Result<Sheet, Refusal>
     ensures { result ≡ apply s e }

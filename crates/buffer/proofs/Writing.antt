@@ -3,11 +3,11 @@ use Rattle.std.proofs.Common.{ℕ, ◌+◌, ◌-◌, ◌*◌, ◌/◌, ◌%◌, 
 use Rattle.std.specs.Int.{from_bool}
 use Rattle.std.proofs.lemmas.List.{take_more}
 use Rattle.std.proofs.lemmas.List.Edits.{sets-eq}
-use mathlib.Core.Logic.{by_cases}
-use native.Mathlib.Decide.{dec_lt}
-use lib.Seq.{sets, length-sets}
+use Rattle.std.proofs.Math.Logic.{by_cases}
+use Rattle.std.proofs.Math.Decide.{dec_lt}
+use Rattle.std.proofs.Math.Seq.{sets}
 use Rattle.text.specs.Written.{decimal, separated, line_end, line}
-use Rattle.buffer.specs.Sinks.{Put, sets_append}
+use Rattle.buffer.specs.Sinks.{Put}
 
 -- a number's digits, by how many there are
 module _ (v : ℕ) where
@@ -102,7 +102,7 @@ decimal_short v =
     by_cases (dec_lt v 10) (λ a. omega (arith, ap length (one v a)))
     (λ a. by_cases (dec_lt v 100) (λ b. omega (arith, ap length (two v (omega arith) b))) (λ b. omega (arith, ap length (three v (omega arith)))))
 
-pub line_size : (key vs : List ℕ) → 0 < length vs → length (line key vs) ≡ length key + length (decimal (get_or vs 0 0)) + length (others (drop 1 vs)) + 1
+line_size : (key vs : List ℕ) → 0 < length vs → length (line key vs) ≡ length key + length (decimal (get_or vs 0 0)) + length (others (drop 1 vs)) + 1
 line_size key vs h = ap length (line_parts key vs h) ∙ simp length-append
 
 others_short : (vs : List ℕ) → length (others vs) ≤ 4 * length vs
@@ -114,28 +114,3 @@ pub line_short : (key vs : List ℕ) → length (line key vs) ≤ length key + 1
 unfolding line separated
 line_short key [] = let e : length (line key []) ≡ length key + 1 = length-append (key ++ []) line_end ∙ rw (append-nil key) refl in omega arith
 line_short key (v ∷ vs) = omega (arith, line_size key (v ∷ vs) (omega arith), decimal_short v, others_short vs)
-
--- The buffer `out` and the place `at` when `rest` is left to write of `all`, which began at `start` of the buffer `out₀`.
-pub record Left (out₀ : List ℕ) (start : ℕ) (all out : List ℕ) (at : ℕ) (rest : List ℕ) : Type 0 where
-  pub size : length out ≡ length out₀
-  pub place : at + length rest ≡ start + length all
-  pub makes : sets out at rest ≡ sets out₀ start all
-
-pub left_all : (out₀ : List ℕ) (start : ℕ) (all : List ℕ) → Left out₀ start all out₀ start all
-left_all out₀ start all = record { size = refl; place = refl; makes = refl }
-
-module _ {out₀ : List ℕ} {start : ℕ} {all out : List ℕ} {at : ℕ} where
-  pub left_fits : {rest : List ℕ} → Left out₀ start all out at rest → start + length all ≤ length out₀ → at + length rest ≤ length out
-  left_fits l h = omega (arith, l.size, l.place)
-
-  pub left_room : (xs rest : List ℕ) → Left out₀ start all out at (xs ++ rest) → start + length all ≤ length out₀ → at + length xs ≤ length out
-  left_room xs rest l h = omega (arith, l.size, l.place, length-append xs rest)
-
-  -- the next bytes are written
-  pub left_turn : (xs rest : List ℕ) {out₁ : List ℕ} {at₁ : ℕ} → Left out₀ start all out at (xs ++ rest) → at₁ ≡ at + length xs → out₁ ≡ sets out at xs → Left out₀ start all out₁ at₁ rest
-  left_turn xs rest l ea eo =
-      record {
-        size = ap length eo ∙ length-sets out at xs ∙ l.size;
-        place = omega (arith, l.place, length-append xs rest);
-        makes = rw (ea, eo) (sym (sets_append xs rest out at) ∙ l.makes);
-      }

@@ -5,11 +5,16 @@ use Rattle.std.proofs.Math.Nat.{suc-add, add-suc}
 use Rattle.std.proofs.Math.ListN.{set}
 use Rattle.std.proofs.Math.Seq.{sets, length-sets}
 use Rattle.std.proofs.lemmas.List.{length-append}
+use Rattle.buffer.specs.declared.Writer.{Writer}
 
 -- The buffer `out₁` and the place `at₁` when a text is put into the buffer `out` from the place `at` on.
 pub record Put (out : List ℕ) (at : ℕ) (text out₁ : List ℕ) (at₁ : ℕ) : Type 0 where
   pub place : at₁ ≡ at + length text
   pub makes : out₁ ≡ sets out at text
+
+-- the second writer is the first with a text more
+abbrev pub Puts : Writer → List ℕ → Writer → Type 0
+Puts w text v = Put w.out.now w.filled text v.out.now v.filled × (v.out.ghost_name ≡ w.out.ghost_name)
 
 -- A count of bytes when a text is counted.
 pub record Counted (at : ℕ) (text : List ℕ) (at₁ : ℕ) : Type 0 where
@@ -18,7 +23,7 @@ pub record Counted (at : ℕ) (text : List ℕ) (at₁ : ℕ) : Type 0 where
 length_after : (at : ℕ) (xs ys : List ℕ) → at + length xs + length ys ≡ at + length (xs ++ ys)
 length_after at xs ys = add_assoc at (length xs) (length ys) ∙ ap (λ (n : ℕ). at + n) (sym (length-append xs ys))
 
-pub sets_append : (xs ys out : List ℕ) (at : ℕ) → sets out at (xs ++ ys) ≡ sets (sets out at xs) (at + length xs) ys
+sets_append : (xs ys out : List ℕ) (at : ℕ) → sets out at (xs ++ ys) ≡ sets (sets out at xs) (at + length xs) ys
 sets_append [] ys out at = ap (λ (n : ℕ). sets out n ys) (sym (add-zero at))
 sets_append (x ∷ xs) ys out at =
     sets_append xs ys (set out at x) (suc at)

@@ -1,11 +1,12 @@
 // Texts put into a buffer or counted: numbers, keys, line ends, and the lines of the text layouts.
 #![tactic(auto)]
 
-ghost use Rattle.std.specs.Prelude.{◌≡◌, ℕ, List, [], ◌∷◌, ◌++◌, ◌+◌, ◌≤◌, ◌<◌, length};
+ghost use Rattle.std.specs.Prelude.{◌≡◌, leb, ℕ, List, [], ◌∷◌, ◌++◌, ◌+◌, ◌≤◌, ◌<◌, length};
 ghost use Rattle.std.below.core.specs.declared.int.usize.TheConstants.{MAX};
 ghost use Rattle.text.specs.Written.{decimal, line};
 ghost use Rattle.std.proofs.Common.{refl, ◌∙◌};
-ghost use Rattle.buffer.specs.Sinks.{Put, Counted, put_nothing, put_joined, put_size, counted_nothing, counted_joined};
+ghost use Rattle.buffer.specs.Sinks.{Puts, Counted, put_nothing, put_joined, put_size, counted_nothing, counted_joined};
+ghost use Rattle.buffer.specs.Fronts.{front_filled, front_after};
 
 // Where a text goes: into a buffer, or only into a count of its bytes.
 pub trait Sink {
@@ -50,7 +51,7 @@ impl Sink for Writer<'_> {
 
     ghost size = { λ w. length w.out.now };
 
-    ghost puts = { λ w text v. Put w.out.now w.filled text v.out.now v.filled × (v.out.ghost_name ≡ w.out.ghost_name) };
+    ghost puts = { Puts };
 
     ghost nothing = { λ w. (put_nothing w.out.now w.filled, refl) };
 
@@ -70,13 +71,14 @@ impl Sink for Writer<'_> {
     }
 
     // The three of hundreds, tens and ones are stored one after the other, each over the one before it where that leads: so no branch hangs on the number.
+    // (`as` narrows digits: there is no `From` for that, and `TryFrom` has a branch that fails, which is never taken.)
     fn number(&mut self, v: u16) {
         let at = self.filled;
         let tens = at + usize::from(99 < v);
         let ones = tens + usize::from(9 < v);
-        self.out[at] = (v / 100 % 10) as u8 + 48;
-        self.out[tens] = (v / 10 % 10) as u8 + 48;
-        self.out[ones] = (v % 10) as u8 + 48;
+        self.out[at] = (v / 100 % 10) as u8 + b'0';
+        self.out[tens] = (v / 10 % 10) as u8 + b'0';
+        self.out[ones] = (v % 10) as u8 + b'0';
         self.filled = ones + 1;
     }
 }
@@ -134,4 +136,40 @@ pub fn put_line<S: Sink>(to: &mut S, key: &[u8], values: &[u16])
         put_next(to, v);
     }
     to.byte(b'\n');
+}
+
+// What has a text.
+pub trait Text {
+    ghost text: { Self → List ℕ };
+
+    // Puts the text.
+    fn put<S: Sink>(&self, to: &mut S)
+        requires { S.used to.old + length (text self.now) ≤ S.size to.old }
+        ensures { S.puts to.old (text self.now) to.new };
+}
+
+// Whether a text, which has at most `longest` bytes, has at most `room`. It is measured only where the longest would not fit.
+fn fits<T: Text>(text: &T, longest: usize, room: usize) -> bool
+    requires { length (T.text text.now) ≤ longest }
+    ensures { result ≡ leb (length (T.text text.now)) room }
+{
+    if longest <= room {
+        return true;
+    }
+    let mut count = Count { bytes: 0 };
+    text.put(&mut count);
+    count.bytes <= room
+}
+
+// Puts a text, which has at most `longest` bytes, to the front of the buffer, if it fits, and gives its length.
+pub fn write_front<T: Text>(text: &T, longest: usize, out: &mut [u8]) -> Option<usize>
+    requires { length (T.text text.now) ≤ longest }
+    ensures { (result ≡ front_filled (T.text text.now) out.old) × (out.new ≡ front_after (T.text text.now) out.old) }
+{
+    if !fits(text, longest, out.len()) {
+        return None;
+    }
+    let mut writer = Writer { out, filled: 0 };
+    text.put(&mut writer);
+    Some(writer.filled)
 }

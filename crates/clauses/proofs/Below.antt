@@ -1,9 +1,9 @@
 -- Tests of a table from an entry on and of the ends of the edges, as tests of lists; and tables over the darts, entry by entry. Assumes nothing.
 use Rattle.std.proofs.Common.{ℕ, suc, ◌+◌, ◌-◌, ◌<◌, ◌≡◌, refl, sym, ◌∙◌, List, add-one, arith, get_or, set, length, replicate, zero, [], ◌∷◌, ◌≤◌, take, drop, zip, take_all, length-drop, eqb, ltb, ◌&&◌, ◌||◌, not, ap, le-ltb, lt-ltb}
-use lib.ListN.{get_or-append}
-use lib.Seq.{set_at, append_snoc}
-use mathlib.Core.Logic.{by_cases}
-use native.Mathlib.Decide.{dec_lt}
+use Rattle.std.proofs.Math.ListN.{get_or-append}
+use Rattle.std.proofs.Math.Seq.{set_at, append_snoc}
+use Rattle.std.proofs.Math.Logic.{by_cases}
+use Rattle.std.proofs.Math.Decide.{dec_lt}
 use Rattle.std.specs.List.{list_all}
 use Rattle.counting.specs.Below.{all_below, tabulate}
 use Rattle.counting.proofs.Below.{all_front, all_agree, list_all_below, length_tabulate, get_d_tabulate}

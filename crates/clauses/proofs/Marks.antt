@@ -1,7 +1,7 @@
 -- Marks of the vertices that are ends. Assumes nothing.
 use Rattle.std.proofs.Common.{ℕ, ◌+◌, ◌<◌, ◌≡◌, refl, sym, ◌∙◌, Bool, true, false, not, ◌||◌, List, add-one, arith, eq-eqb, ne_eqb, eqb, get_or, set, length-set, replicate, get_or-set_same, get_or-set_other, ext_get_or, take, get_or-take, ◌&&◌, length, length-take}
-use mathlib.Core.Bool.{beq, or-true, or-false}
-use native.Mathlib.Decide.{ℕ_discrete}
+use Rattle.std.proofs.Math.Bool.{beq, or-true, or-false}
+use Rattle.std.proofs.Math.Decide.{ℕ_discrete}
 use Rattle.counting.specs.Below.{all_below, some_below, tabulate}
 use Rattle.clauses.specs.Inner.{end_of, pole_at}
 use Rattle.counting.proofs.Below.{all_none, length_tabulate, get_d_tabulate}

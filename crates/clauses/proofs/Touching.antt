@@ -1,7 +1,7 @@
 -- When an edge joins two vertices, and when it has an end at one. Assumes nothing.
 use Rattle.std.proofs.Common.{ℕ, ◌<◌, ◌≡◌, refl, ◌≢◌, true, false, not, ◌&&◌, List, eqb, ltb, get_or, ltb-true, eq-eqb, ne_eqb, eqb-true}
-use mathlib.Core.Bool.{and-eq-true_iff, or-true}
-use borrow.Author.Tests.{eqb-false, not-true}
+use Rattle.std.proofs.Math.Bool.{and-eq-true_iff, or-true}
+use Rattle.std.proofs.lemmas.Bool.{eqb-false, not-true}
 use Rattle.clauses.specs.Darts.{touches_of}
 
 pub joins_means : (n a b : ℕ) → (ltb a n && ltb b n && not (eqb a b)) ≡ true → (a < n) × (b < n) × (a ≢ b)

@@ -1,5 +1,5 @@
 -- The clauses of soundness over the record's arrays, as the functions behind the check compute them.
-use Rattle.std.specs.Prelude.{ℕ, ◌-◌, ◌*◌, ◌/◌, ◌≤◌, ◌<◌, Bool, cond, not, ◌&&◌, ◌||◌, List, ◌++◌, eqb, ltb, leb, get_or, replicate}
+use Rattle.std.specs.Prelude.{ℕ, ◌-◌, ◌*◌, ◌/◌, Bool, cond, not, ◌&&◌, ◌||◌, List, ◌++◌, eqb, ltb, leb, get_or, replicate}
 use Rattle.std.specs.Bool.{beq}
 use Rattle.counting.specs.Below.{all_below, some_below, tabulate}
 use Rattle.clauses.specs.Darts.{is_tail, opposite}
@@ -15,11 +15,6 @@ zero_at from table k = ltb k from || eqb (get_or table k 0) 0
 
 unfoldable pub unused_of : ℕ → List ℕ → List ℕ → List ℕ → Bool
 unused_of m tails heads nexts = all_below (zero_at m tails) 256 && all_below (zero_at m heads) 256 && all_below (zero_at (2 * m) nexts) 512
-
--- the first m ends are vertices below n
-pub record Ends (n m : ℕ) (ends : List ℕ) : Type 0 where
-  pub few : m ≤ 256
-  pub inside : (k : ℕ) → k < m → get_or ends k 0 < n
 
 -- a table over the darts below n, with 0 past them
 unfoldable pub dart_table : (ℕ → ℕ) → ℕ → List ℕ

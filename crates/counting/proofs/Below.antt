@@ -1,12 +1,13 @@
 -- Tests and tables over the numbers below n. Assumes nothing.
 use Rattle.std.proofs.Common.{ℕ, zero, suc, ◌<◌, ◌≡◌, refl, sym, ap, ◌∙◌, Bool, true, false, ◌&&◌, List, [], ◌∷◌, ◌++◌, arith, get_or, length, length-append, ne_eqb, eq-eqb}
-use mathlib.Core.Logic.{by_cases}
+use Rattle.std.proofs.Math.Logic.{by_cases}
 use Rattle.std.proofs.Math.Bool.{and-true, and-eq-true_iff, and_assoc}
-use native.Mathlib.Decide.{ℕ_discrete}
-use lib.ListN.{get_or-append}
-use lib.Seq.{get_or_at}
+use Rattle.std.proofs.Math.Decide.{ℕ_discrete}
+use Rattle.std.proofs.Math.ListN.{get_or-append}
+use Rattle.std.proofs.Math.Seq.{get_or_at}
 use Rattle.std.specs.List.{list_all}
 use Rattle.counting.specs.Below.{all_below, lowest_below, tabulate}
+use Rattle.counting.proofs.Iterate.{clash}
 
 module _ (p : ℕ → Bool) where
   pub all_none : all_below p 0 ≡ true
@@ -74,6 +75,10 @@ lowest p (suc n) = go (lowest p n) (p n) refl
     go (none q f) false e =
         let same : lowest_below p (suc n) ≡ suc n = rw (eq-eqb (lowest_below p n) n q, e) refl in
         none same (λ k h. by_cases (ℕ_discrete k n) (λ r. ap p r ∙ e) (λ r. f k (omega arith)))
+
+-- where one passes, so does the lowest
+pub lowest_found : (p : ℕ → Bool) (n k : ℕ) → k < n → p k ≡ true → (lowest_below p n < n) × (p (lowest_below p n) ≡ true) × ((j : ℕ) → j < lowest_below p n → p j ≡ false)
+lowest_found p n k h t = elim (lowest p n) [ found b u f ↦ (b, u, f) | none q f ↦ clash t (f k h) ]
 
 pub length_tabulate {ℓ} : {A : Type ℓ} (f : ℕ → A) (n : ℕ) → length (tabulate f n) ≡ n
 unfolding tabulate

@@ -1,27 +1,13 @@
 -- Laws of `count`, and the pigeonhole principle for a function onto. Assumes nothing.
-use Rattle.std.proofs.Common.{◌≡◌, refl, sym, ap, ◌∙◌, ◌≢◌, Bool, true, false, not, ◌&&◌, true≢false, ℕ, zero, suc, ◌+◌, ◌≤◌, ◌<◌, zero-le, le_of_eq, arith, T, eqb, ltb, eq-eqb, ne_eqb, lt-ltb, le-ltb}
-use mathlib.Core.Logic.{by_cases}
-use mathlib.Core.Bool.{false≢true}
-use native.Mathlib.Decide.{ℕ_discrete, dec_lt}
+use Rattle.std.proofs.Common.{◌≡◌, refl, sym, ap, ◌∙◌, ◌≢◌, Bool, true, false, not, ◌&&◌, true≢false, ℕ, zero, suc, ◌+◌, ◌≤◌, ◌<◌, zero-le, le_of_eq, arith, eqb, ltb, eq-eqb, ne_eqb, lt-ltb, le-ltb, List, get_or, set, length, add-one}
+use Rattle.std.proofs.Math.Logic.{by_cases}
+use Rattle.std.proofs.lemmas.Bool.{false≢true}
+use Rattle.std.proofs.Math.Decide.{ℕ_discrete, dec_lt}
 use Rattle.counting.specs.Counts.{bit, count}
 use Rattle.counting.proofs.Pigeonhole.{Found, find, pigeonhole}
 use Rattle.counting.proofs.Pigeonhole.Found.{at, nowhere}
-
--- ---- a test and what it says
-
-pub from_t : {b : Bool} → T b → b ≡ true
-from_t {b = true} t = refl
-from_t {b = false} t = absurd t
-
-pub to_t : {b : Bool} → b ≡ true → T b
-to_t {b = true} e = tt
-to_t {b = false} e = absurd (false≢true e)
-
-pub eqb_same : (d : ℕ) → eqb d d ≡ true
-eqb_same d = eq-eqb d d refl
-
-pub eqb_other : {d e : ℕ} → e ≢ d → eqb e d ≡ false
-eqb_other h = ne_eqb _ _ h
+use Rattle.counting.proofs.Stores.{Stored, stored}
+use Rattle.counting.proofs.Stores.Stored.{here, apart}
 
 -- ---- the test p, failed at d
 
@@ -30,11 +16,11 @@ without p d e = not (eqb e d) && p e
 
 pub without_same : (p : ℕ → Bool) (d : ℕ) → without p d d ≡ false
 unfolding without
-without_same p d = rw (eqb_same d)
+without_same p d = rw (eq-eqb d d refl) refl
 
 pub without_other : (p : ℕ → Bool) {d e : ℕ} → e ≢ d → without p d e ≡ p e
 unfolding without
-without_other p h = rw (eqb_other h)
+without_other p {d} {e} h = rw (ne_eqb e d h)
 
 -- what passes `without p d` is not d, and passes p
 pub without_not : (p : ℕ → Bool) (d e : ℕ) → without p d e ≡ true → e ≢ d
@@ -44,6 +30,10 @@ pub without_passes : (p : ℕ → Bool) (d e : ℕ) → without p d e ≡ true �
 without_passes p d e h = sym (without_other p (without_not p d e h)) ∙ h
 
 -- ---- laws of `count`
+
+pub bit_most : (b : Bool) → bit b ≤ 1
+bit_most true = omega arith
+bit_most false = omega arith
 
 -- tests that agree below n have one count
 pub count_agree : (p q : ℕ → Bool) (n : ℕ) → ((d : ℕ) → d < n → p d ≡ q d) → count p n ≡ count q n
@@ -246,3 +236,13 @@ count_gap p (suc n) h = go (p n) refl h (count_gap p n)
     go : (b : Bool) → p n ≡ b → bit b + count p n < suc n → (count p n < n → (d : ℕ) × (d < n) × (p d ≡ false)) → (d : ℕ) × (d < suc n) × (p d ≡ false)
     go true e l ih = let (d, b, f) = ih (omega arith) in (d, omega arith, f)
     go false e l ih = (n, omega arith, e)
+
+-- a table of how often each number stands among the first k of a list: one more of them is counted
+pub tally_more : (k : ℕ) (entries table : List ℕ) (v : ℕ) → v ≡ get_or entries k 0 → v < length table → (x : ℕ) → get_or table x 0 ≡ count (λ d. eqb (get_or entries d 0) x) k
+    → get_or (set table v (get_or table v 0 + 1)) x 0 ≡ count (λ d. eqb (get_or entries d 0) x) (k + 1)
+unfolding count
+tally_more k entries table v e h x old = rw (add-one k) (go (stored table v (get_or table v 0 + 1) x 0 h))
+  where
+    go : Stored table v (get_or table v 0 + 1) x 0 → get_or (set table v (get_or table v 0 + 1)) x 0 ≡ bit (eqb (get_or entries k 0) x) + count (λ d. eqb (get_or entries d 0) x) k
+    go (here p q) = omega (arith, q, ap bit (eq-eqb (get_or entries k 0) x (sym e ∙ sym p)), old, ap (λ y. get_or table y 0) p)
+    go (apart n q) = omega (arith, q, ap bit (ne_eqb (get_or entries k 0) x (λ p. n (sym p ∙ sym e))), old)

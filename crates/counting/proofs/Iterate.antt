@@ -1,8 +1,8 @@
 -- Cases on a Bool, laws of `iter`, the place where a test on the way changes, and a bound on finitely many values. Assumes nothing.
 use Rattle.std.proofs.Common.{◌≡◌, refl, sym, ap, ◌∙◌, ◌≢◌, ◌⊎◌, inl, inr, Bool, true, false, not, true≢false, ℕ, zero, suc, ◌+◌, ◌*◌, ◌≤◌, ◌<◌, le_refl, zero-add, suc-add, zero-mul, suc-mul, arith}
-use mathlib.Core.Logic.{by_cases}
-use mathlib.Core.Bool.{false≢true}
-use native.Mathlib.Decide.{ℕ_discrete}
+use Rattle.std.proofs.Math.Logic.{by_cases}
+use Rattle.std.proofs.lemmas.Bool.{false≢true}
+use Rattle.std.proofs.Math.Decide.{ℕ_discrete}
 use Rattle.counting.specs.Orbits.{iter}
 
 -- ---- cases on a Bool
@@ -15,14 +15,6 @@ by_bool false t f = f refl
 -- it is not both
 pub clash : {A : Type 0} {b : Bool} → b ≡ true → b ≡ false → A
 clash t f = absurd (true≢false (sym t ∙ f))
-
-pub not-true : (b : Bool) → not b ≡ true → b ≡ false
-not-true true e = sym e
-not-true false e = refl
-
-pub not-false : (b : Bool) → not b ≡ false → b ≡ true
-not-false true e = refl
-not-false false e = sym e
 
 pub either : (x b : Bool) → (x ≡ b) ⊎ (x ≡ not b)
 either true true = inl refl

@@ -7,3 +7,5 @@ pub mod Lowest
 pub mod Paths
 pub mod Stores
 pub mod Below
+pub mod Joined
+pub mod Choice

@@ -1,12 +1,12 @@
 -- The labelling of a permutation's orbits in the order of their lowest elements; the number of orbits as a count. Assumes nothing.
-use Rattle.std.proofs.Common.{◌≡◌, refl, sym, ◌∙◌, ap, subst, Bool, true, ◌&&◌, ℕ, zero, suc, ◌≤◌, ◌<◌, min, le_antisymm, arith, leb, leb→le, le→leb}
-use mathlib.Core.Logic.{by_cases}
-use mathlib.Core.Bool.{and-eq-true_iff}
-use native.Mathlib.Nat.{min-eq_left, min-eq_right}
-use native.Mathlib.Decide.{ℕ_discrete, dec_le}
+use Rattle.std.proofs.Common.{◌≡◌, refl, sym, ◌∙◌, ap, subst, Bool, true, ◌&&◌, ℕ, zero, suc, ◌≤◌, ◌<◌, min, le_antisymm, arith, leb, leb-true, le-leb}
+use Rattle.std.proofs.Math.Logic.{by_cases}
+use Rattle.std.proofs.Math.Bool.{and-eq-true_iff}
+use Rattle.std.proofs.Math.Nat.{min-eq_left, min-eq_right}
+use Rattle.std.proofs.Math.Decide.{ℕ_discrete, dec_le}
 use Rattle.counting.specs.Counts.{count}
 use Rattle.counting.specs.Orbits.{Perm, iter, Reach, Orbits}
-use Rattle.counting.proofs.Counts.{from_t, to_t, count_lt, count_one_one, count_onto}
+use Rattle.counting.proofs.Counts.{count_lt, count_one_one, count_onto}
 use Rattle.counting.proofs.Reach.{reach_refl, reach_trans, reach_sym, reach_soon, reach_below}
 use Rattle.counting.proofs.Orbits.{labels_orbits}
 
@@ -34,14 +34,14 @@ low→ φ zero d t i h = absurd (omega arith)
 low→ φ (suc n) d t i h =
     let (here, rest) = (and-eq-true_iff (leb d (iter φ n d)) (low φ n d)).0 t in
     by_cases (ℕ_discrete i n)
-    (λ e. subst (λ x. d ≤ iter φ x d) (sym e) (leb→le d (iter φ n d) (to_t here)))
+    (λ e. subst (λ x. d ≤ iter φ x d) (sym e) (leb-true d (iter φ n d) here))
     (λ e. low→ φ n d rest i (omega arith))
 
 →low : (φ : ℕ → ℕ) (n d : ℕ) → ((i : ℕ) → i < n → d ≤ iter φ i d) → low φ n d ≡ true
 unfolding low
 →low φ zero d f = refl
 →low φ (suc n) d f =
-    (and-eq-true_iff (leb d (iter φ n d)) (low φ n d)).1 (from_t (le→leb d (iter φ n d) (f n (omega arith))), →low φ n d (λ i h. f i (omega arith)))
+    (and-eq-true_iff (leb d (iter φ n d)) (low φ n d)).1 (le-leb d (iter φ n d) (f n (omega arith)), →low φ n d (λ i h. f i (omega arith)))
 
 lowest_le : (φ : ℕ → ℕ) (n d i : ℕ) → i < n → lowest φ n d ≤ iter φ i d
 unfolding lowest

@@ -1,7 +1,7 @@
 -- Labels that a permutation keeps, the number of its orbits, and renumbering. Assumes nothing.
 use Rattle.std.proofs.Common.{◌≡◌, refl, sym, ◌∙◌, ap, subst, ◌≢◌, ℕ, zero, suc, ◌≤◌, ◌<◌, le_antisymm, arith}
-use mathlib.Core.Logic.{by_cases}
-use native.Mathlib.Decide.{ℕ_discrete}
+use Rattle.std.proofs.Math.Logic.{by_cases}
+use Rattle.std.proofs.Math.Decide.{ℕ_discrete}
 use Rattle.counting.specs.Orbits.{Perm, Bijection, iter, Reach, Orbits}
 use Rattle.counting.proofs.Pigeonhole.{Sent, Apart, pigeonhole}
 use Rattle.counting.proofs.Reach.{iter_below}

@@ -1,7 +1,7 @@
 -- Directed paths: joined, cut, decided; a long path holds a circle; where there is no circle, longest paths exist. Assumes nothing.
 use Rattle.std.proofs.Common.{◌≡◌, refl, sym, ◌∙◌, subst, ◌≢◌, ℕ, zero, suc, ◌+◌, ◌-◌, ◌≤◌, ◌<◌, add-zero, add-suc, arith}
-use mathlib.Core.Logic.{by_cases}
-use native.Mathlib.Decide.{ℕ_discrete, dec_lt}
+use Rattle.std.proofs.Math.Logic.{by_cases}
+use Rattle.std.proofs.Math.Decide.{ℕ_discrete, dec_lt}
 use Rattle.counting.specs.Paths.{Path, Circle, Longest}
 use Rattle.counting.specs.Paths.Path.{here, more}
 use Rattle.counting.proofs.Pigeonhole.{Found, find, pigeonhole, Apart}

@@ -1,7 +1,7 @@
 -- Bounded search, and the pigeonhole principle for a relation. Assumes nothing.
 use Rattle.std.proofs.Common.{◌≡◌, refl, subst, ℕ, zero, suc, ◌≤◌, ◌<◌, zero-le, suc-le-suc, arith}
-use mathlib.Core.Logic.{by_cases}
-use native.Mathlib.Decide.{ℕ_discrete}
+use Rattle.std.proofs.Math.Logic.{by_cases}
+use Rattle.std.proofs.Math.Decide.{ℕ_discrete}
 
 -- a decided statement holds at the lowest i below n, or at none
 pub data Found (P : ℕ → Type 0) (n : ℕ) : Type 0 where

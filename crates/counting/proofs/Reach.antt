@@ -1,7 +1,7 @@
 -- Of a permutation of the numbers below N: every orbit returns, so reaching is symmetric, takes fewer than N steps, and is decided. Assumes nothing.
 use Rattle.std.proofs.Common.{◌≡◌, refl, sym, ◌∙◌, ap, subst, ◌≢◌, ℕ, zero, suc, ◌≤◌, ◌<◌, arith}
-use mathlib.Core.Logic.{by_cases}
-use native.Mathlib.Decide.{ℕ_discrete, dec_lt}
+use Rattle.std.proofs.Math.Logic.{by_cases}
+use Rattle.std.proofs.Math.Decide.{ℕ_discrete, dec_lt}
 use Rattle.counting.specs.Orbits.{Perm, iter, Reach}
 use Rattle.counting.proofs.Pigeonhole.{Apart, pigeonhole, Found, at, nowhere, find}
 use Rattle.counting.proofs.Iterate.{iter_shift, around}

@@ -1,13 +1,10 @@
 -- Demand 3: every list of loads and edits. Assumes nothing.
-use Rattle.std.specs.Prelude.{Ok, Err}
-use Prim.Native.Nat.{ℕ}
-use mathlib.Core.Path.{◌≡◌, refl}
-use mathlib.Core.List.{List, [], ◌∷◌}
+use Rattle.std.proofs.Common.{Ok, Err, ℕ, ◌≡◌, refl, List, [], ◌∷◌}
 use Rattle.answers.specs.Answers.{Answer, answer_number}
 use Rattle.answers.specs.Refusals.{answering}
 use Rattle.answers.specs.Clauses.{Clause, First}
 use Rattle.answers.proofs.Refusals.{refusal_nonzero}
-use Rattle.sheet.specs.declared.Sheet.{Sheet}
+use Rattle.clauses.specs.declared.Sheet.{Sheet}
 use Rattle.sheet.specs.Fresh.{fresh_sheet}
 use Rattle.soundness.proofs.Law.{sound_law}
 use Rattle.soundness.proofs.Fresh.{fresh_law, fresh_sized}

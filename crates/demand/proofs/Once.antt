@@ -1,11 +1,10 @@
 -- What is laid down for an edit leaves one answer. Assumes nothing.
-use mathlib.Core.Path.{◌≡◌, refl, sym, ◌∙◌}
-use mathlib.Core.Logic.{by_cases}
-use mathlib.Core.List.{List}
-use native.Mathlib.Decide.{ℕ_discrete}
+use Rattle.std.proofs.Common.{◌≡◌, refl, sym, ◌∙◌, List}
+use Rattle.std.proofs.Math.Logic.{by_cases}
+use Rattle.std.proofs.Math.Decide.{ℕ_discrete}
 use Rattle.answers.specs.Clauses.{Clause}
 use Rattle.answers.proofs.Clauses.{first_once}
-use Rattle.sheet.specs.declared.Sheet.{Sheet}
+use Rattle.clauses.specs.declared.Sheet.{Sheet}
 use Rattle.demand.specs.Calls.{Outcome}
 use Rattle.demand.specs.Answered.{EditAnswered}
 

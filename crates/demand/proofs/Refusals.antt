@@ -1,14 +1,9 @@
 -- The tests of each edit, in their order, give the number that its refusals lay down. Assumes nothing.
-use Prim.Native.Nat.{ℕ, ◌/◌, ◌≤◌, ◌<◌}
-use mathlib.Core.Path.{◌≡◌, refl, sym, ◌∙◌, ap}
-use mathlib.Core.Logic.{◌≢◌, ◌⊎◌, inl, inr, by_cases, ◌↔◌}
-use mathlib.Core.Bool.{Bool, true, false, not, ◌||◌}
-use native.Mathlib.Decide.{ℕ_discrete}
-use native.Mathlib.Omega.{arith}
-use lib.Dec.{eqb}
-use borrow.Author.Tests.{eqb-true, eq-eqb, ne_eqb}
+use Rattle.std.proofs.Common.{ℕ, ◌/◌, ◌≤◌, ◌<◌, ◌≡◌, refl, sym, ◌∙◌, ap, ◌≢◌, ◌⊎◌, inl, inr, ◌↔◌, Bool, true, false, not, ◌||◌, arith, eqb, eqb-true, eq-eqb, ne_eqb, leb-false}
+use Rattle.std.proofs.Math.Logic.{by_cases}
+use Rattle.std.proofs.Math.Decide.{ℕ_discrete}
+use Rattle.std.proofs.lemmas.Bool.{not-false, or_parts}
 use Rattle.counting.specs.Counts.{count}
-use Rattle.counting.proofs.Iterate.{not-false}
 use Rattle.counting.proofs.Counts.{count_onto}
 use Rattle.counting.proofs.Orbits.{kept_joined}
 use Rattle.answers.specs.declared.Refusal.TheVariants.{NotSound, NotInSheet, Full, RootEdge, CornersApart, ClosesCircle, EdgeNeeded, VertexNeeded}
@@ -19,18 +14,17 @@ use Rattle.answers.proofs.Clauses.Agree.{none, then}
 use Rattle.clauses.specs.Darts.{opposite, End, HasEnd, dart_of}
 use Rattle.clauses.specs.Darts.End.{at_tail, at_head}
 use Rattle.clauses.proofs.Touching.{head_touches}
-use Rattle.sheet.specs.declared.Sheet.{Sheet}
+use Rattle.clauses.specs.declared.Sheet.{Sheet}
 use Rattle.sheet.specs.Darts.{Sized, tail, head, darts, vertex, touches, dart_at}
 use Rattle.sheet.specs.Sound.{Sound}
-use Rattle.sheet.specs.Check.{sound, face, face_count}
+use Rattle.sheet.specs.Check.{face, face_count}
 use Rattle.soundness.proofs.Tests.{Says, le_says, eq_says, not_says, or_says, and_says, reworded}
-use Rattle.soundness.proofs.Law.{sound_law, rotation_of}
+use Rattle.soundness.proofs.Law.{sound_law, rotation_of, was_sound}
 use Rattle.soundness.proofs.Faces.{walk_perm}
 use Rattle.soundness.proofs.Columns.{column_law}
 use Rattle.soundness.proofs.Darts.{dart_vertex, opposite_below}
 use Rattle.soundness.proofs.Ends.{EndAt, at_below, end_touches, end_at_law}
 use Rattle.edit.specs.Calls.{put_in_answer, run_answer, take_out_edge_answer, take_out_vertex_answer, corner_face, out_degree, in_degree, no_vertex, no_edge}
-use Rattle.preservation.proofs.Accepted.{neither, not_at_most}
 use Rattle.preservation.proofs.Degrees.{another, only_one}
 use Rattle.preservation.proofs.Reaching.{leads_to_law}
 use Rattle.demand.specs.Answered.{put_in_refusals, run_refusals, take_out_edge_refusals, take_out_vertex_refusals, OneFace, DifferentFaces, ExactlyOne}
@@ -47,8 +41,6 @@ regroup x = reworded x
     (λ w. elim w [ inl p ↦ inl (inl p) | inr v ↦ elim v [ inl q ↦ inl (inr q) | inr r ↦ inr r ] ])
 
 -- the first test of each edit
-was_sound : (s : Sheet) → Sized s → not (sound s) ≡ false → Sound s
-was_sound s z e = (sound_law s z).0 (not-false (sound s) e)
 
 pub put_in_number : (s : Sheet) → Sized s → (k : ℕ) → First (put_in_refusals s k) (answer_number (put_in_answer s k))
 unfolding put_in_answer put_in_refusals refusal_number
@@ -96,7 +88,7 @@ module _ (s : Sheet) (S : Sound s) (a p b q : ℕ) (p_in : p < s.edges) (q_in : 
   apart_says : Says (not (touches s p a) || not (touches s q b) || not (eqb (corner_face s a p) (corner_face s b q))) ((¬ HasEnd s.tails s.heads p a) ⊎ (¬ HasEnd s.tails s.heads q b) ⊎ DifferentFaces s a p b q)
   apart_says = regroup (or_then
       (or_says (not_says (touches_says s S p a p_in)) (not_says (touches_says s S q b q_in)))
-      (λ f. let (t, u) = neither (not (touches s p a)) (not (touches s q b)) f in corners_says (not-false (touches s p a) t) (not-false (touches s q b) u)))
+      (λ f. let (t, u) = or_parts (not (touches s p a)) (not (touches s q b)) f in corners_says (not-false (touches s p a) t) (not-false (touches s q b) u)))
 
 pub run_number : (s : Sheet) → Sized s → (a p b q : ℕ) → First (run_refusals s a p b q) (answer_number (run_answer s a p b q))
 unfolding run_answer run_refusals refusal_number
@@ -113,10 +105,10 @@ run_number s z a p b q = first_number
 
     all_in : (no_vertex s a || no_vertex s b || no_edge s p || no_edge s q) ≡ false → (a < s.vertices) × (b < s.vertices) × (p < s.edges) × (q < s.edges)
     all_in f =
-        let (fr, fq) = neither (no_vertex s a || no_vertex s b || no_edge s p) (no_edge s q) f in
-        let (fv, fp) = neither (no_vertex s a || no_vertex s b) (no_edge s p) fr in
-        let (fa, fb) = neither (no_vertex s a) (no_vertex s b) fv in
-        (not_at_most s.vertices a fa, not_at_most s.vertices b fb, not_at_most s.edges p fp, not_at_most s.edges q fq)
+        let (fr, fq) = or_parts (no_vertex s a || no_vertex s b || no_edge s p) (no_edge s q) f in
+        let (fv, fp) = or_parts (no_vertex s a || no_vertex s b) (no_edge s p) fr in
+        let (fa, fb) = or_parts (no_vertex s a) (no_vertex s b) fv in
+        (leb-false s.vertices a fa, leb-false s.vertices b fb, leb-false s.edges p fp, leb-false s.edges q fq)
 
 -- the count is 1: there is exactly one
 one_says : (s : Sheet) (end : ℕ → ℕ) (v : ℕ) → Says (eqb (count (λ k. eqb (end k) v) s.edges) 1) (ExactlyOne s end v)
@@ -146,7 +138,7 @@ pub take_out_edge_number : (s : Sheet) → Sized s → (k : ℕ) → First (take
 unfolding take_out_edge_answer take_out_edge_refusals refusal_number out_degree in_degree
 take_out_edge_number s z k = first_number
     (then {r = NotSound} refl (not_says (sound_law s z)) (λ _.
-    then {r = NotInSheet} refl (le_says s.edges k) (λ f. let k_in = not_at_most s.edges k f in
+    then {r = NotInSheet} refl (le_says s.edges k) (λ f. let k_in = leb-false s.edges k f in
     then {r = RootEdge} refl (eq_says k 0) (λ _.
     then {r = EdgeNeeded} refl (regroup (or_says (or_says (eq_says s.edges 2) (alone_says s (tail s) k k_in)) (alone_says s (head s) k k_in))) (λ _.
     none)))))

@@ -3,7 +3,7 @@ use Rattle.std.specs.Prelude.{ℕ, ◌≤◌, ◌<◌, ◌≡◌, ◌≢◌, ◌
 use Rattle.counting.specs.Paths.{Path}
 use Rattle.answers.specs.Clauses.{Clause, ◌when◌, First}
 use Rattle.clauses.specs.Darts.{opposite, End, HasEnd}
-use Rattle.sheet.specs.declared.Sheet.{Sheet}
+use Rattle.clauses.specs.declared.Sheet.{Sheet}
 use Rattle.sheet.specs.Darts.{tail, head}
 use Rattle.sheet.specs.Sound.{Leads, Faces, Sound}
 use Rattle.edit.specs.Changes.{put_in, run_edge, take_out_edge, take_out_vertex}

@@ -1,6 +1,6 @@
 -- The five calls that change a sheet, and a list of them.
 use Rattle.std.specs.Prelude.{ℕ, List, [], ◌∷◌, Result}
-use Rattle.sheet.specs.declared.Sheet.{Sheet}
+use Rattle.clauses.specs.declared.Sheet.{Sheet}
 use Rattle.answers.specs.declared.Refusal.{Refusal}
 use Rattle.answers.specs.Answers.{answer_number}
 use Rattle.sheet.specs.Fresh.{fresh_sheet}

@@ -1,6 +1,6 @@
 -- Demand 3 as one statement over every list of loads and edits from the fresh sheet.
 use Rattle.std.specs.Prelude.{◌≡◌, List, [], ◌∷◌, Ok}
-use Rattle.sheet.specs.declared.Sheet.{Sheet}
+use Rattle.clauses.specs.declared.Sheet.{Sheet}
 use Rattle.sheet.specs.Sound.{Sound}
 use Rattle.sheet.specs.Fresh.{fresh_sheet}
 use Rattle.drawing.specs.Draw.{draw_call, drawing_of}

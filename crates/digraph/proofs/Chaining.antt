@@ -1,8 +1,8 @@
 -- The lists of edges by one of their ends, built from the last edge down. Assumes nothing.
 use Rattle.std.proofs.Common.{◌≡◌, refl, sym, ap, ◌∙◌, ◌≢◌, ◌⊎◌, inl, inr, ⊎_elim, List, ℕ, suc, ◌≤◌, ◌<◌, arith, get_or, set, length-set, replicate, get_or-set_same, get_or-set_other}
-use mathlib.Core.Logic.{by_cases}
-use native.Mathlib.Decide.{ℕ_discrete}
-use lib.ListN.{get_or-replicate}
+use Rattle.std.proofs.Math.Logic.{by_cases}
+use Rattle.std.proofs.Math.Decide.{ℕ_discrete}
+use Rattle.std.proofs.Math.ListN.{get_or-replicate}
 use Rattle.digraph.specs.Inner.{Listed, Chained}
 use Rattle.digraph.specs.Inner.Listed.{at_head, later}
 

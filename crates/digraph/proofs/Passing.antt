@@ -1,17 +1,17 @@
 -- The edges out of one node are passed. Assumes nothing.
 use Rattle.std.proofs.Common.{◌≡◌, refl, sym, ap, ◌∙◌, ◌≢◌, ◌⊎◌, inl, inr, ⊎_elim, Bool, true, false, List, ℕ, suc, ◌+◌, ◌-◌, ◌%◌, ◌≤◌, ◌<◌, max, arith, add-one, eqb, ltb, eq-eqb, ne_eqb, lt-ltb, le-ltb, get_or, set, length, get_or-set_other}
-use mathlib.Core.Logic.{by_cases}
-use native.Mathlib.Decide.{ℕ_discrete}
-use lib.Seq.{set-get_or}
+use Rattle.std.proofs.Math.Logic.{by_cases}
+use Rattle.std.proofs.Math.Decide.{ℕ_discrete}
+use Rattle.std.proofs.Math.Seq.{set-get_or}
 use Rattle.counting.specs.Counts.{bit, count}
-use Rattle.counting.proofs.Counts.{without, without_same, without_other, count_without}
+use Rattle.counting.proofs.Counts.{without, without_same, without_other, count_without, bit_most}
 use Rattle.counting.proofs.Stores.{Stored, stored}
 use Rattle.counting.proofs.Stores.Stored.{here as same, apart as other}
 use Rattle.digraph.specs.Relaxed.{higher_of, raised}
 use Rattle.digraph.specs.Inner.{Queued, Graph, Progress, Settled, Stepped}
 use Rattle.digraph.specs.declared.Sorting.{Sorting}
 use Rattle.digraph.proofs.Relaxation.{raised_kept, raised_above, raised_attained}
-use Rattle.digraph.proofs.Waits.{some, waiting_less, once, room, queue_past, queue_passed}
+use Rattle.digraph.proofs.Waits.{some, waiting_less, once, room, queue_past, queue_passed, earlier}
 
 -- what fails `without p k` is k, or fails p
 without_false : (p : ℕ → Bool) (k j : ℕ) → without p k j ≡ false → (j ≡ k) ⊎ (p j ≡ false)
@@ -171,27 +171,24 @@ module _ {edges : ℕ} {to : List ℕ} (G : Graph edges to) where
         next : (t : ℕ) → t ≡ bit (eqb (get_or waiting w 0 - 1) 0) → Turn Ahead' head v d (set waiting w (get_or waiting w 0 - 1)) level' (set queue tail w) (tail + t)
         next t e =
             turn (queue_passed T.progress.queued G.within.few_nodes T.progress.waiting_in.size w end_in edge_waits t e)
-            (λ i l. get_or-set_other queue tail i w 0 (omega arith)) (omega arith)
+            (earlier queue tail w) (omega arith)
 
     -- no edge is passed, and something is stored past the queue's end
     skip : (Ahead' : ℕ → Type 0) → ((j : ℕ) → Ahead j → Ahead' j) → ((j : ℕ) → Ahead' j → Ahead j) → (x : ℕ) → Turn Ahead' head v d waiting level (set queue tail x) tail
     skip Ahead' still back x = record {
       waits = T.waits;
       progress = record { waiting_in = P.waiting_in; queued = queue_past P.queued x; attained = P.attained; climbs = P.climbs; low = P.low };
-      passed = λ i j h l e. T.passed i j h l (e ∙ entry i (omega (arith, T.inside)));
-      left = λ j l f. let (i, b, q) = T.left j l f in (i, b, entry i (omega (arith, T.inside)) ∙ q);
+      passed = λ i j h l e. T.passed i j h l (e ∙ earlier queue tail x i (omega (arith, T.inside)));
+      left = λ j l f. let (i, b, q) = T.left j l f in (i, b, earlier queue tail x i (omega (arith, T.inside)) ∙ q);
       mine = λ j l e. ⊎_elim (λ a. inl (still j a)) inr (T.mine j l e);
       ahead = λ j a. T.ahead j (back j a);
-      node = entry head T.inside ∙ T.node;
+      node = earlier queue tail x head T.inside ∙ T.node;
       value = T.value;
       inside = T.inside;
     }
       where
         P : Progress G T.waits waiting level queue tail
         P = T.progress
-
-        entry : (i : ℕ) → i < tail → get_or (set queue tail x) i 0 ≡ get_or queue i 0
-        entry i l = get_or-set_other queue tail i x 0 (omega arith)
 
     -- the edges out of v are passed
     pub finish : ((j : ℕ) → Ahead j → ⊥) → Settled G (head + 1) waiting level queue tail
@@ -240,8 +237,4 @@ module _ {edges : ℕ} {to : List ℕ} (G : Graph edges to) where
 
 -- the queue's end moves on by one at most
 pub end_moves : {w row out : ℕ} {s s' : Sorting} → Stepped w row out s s' → (s.end ≤ s'.end) × (s'.end ≤ s.end + 1)
-end_moves {w} {out} {s} S = omega (arith, S.end_is, at_most_one (ltb (get_or s.waiting w 0 - out) out))
-  where
-    at_most_one : (b : Bool) → bit b ≤ 1
-    at_most_one true = omega arith
-    at_most_one false = omega arith
+end_moves {w} {out} {s} S = omega (arith, S.end_is, bit_most (ltb (get_or s.waiting w 0 - out) out))

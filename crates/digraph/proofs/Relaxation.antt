@@ -1,19 +1,17 @@
 -- What `levels_of` means: the greatest lengths of paths, or a circle. Assumes nothing.
-use Rattle.std.proofs.Common.{◌≡◌, refl, sym, ap, ◌∙◌, Bool, true, false, not, ◌&&◌, true≢false, List, ℕ, zero, suc, ◌≤◌, ◌<◌, arith, get_or, set, length, length-set, replicate, ext_get_or, Some, None}
-use mathlib.Core.Logic.{by_cases}
-use mathlib.Core.Bool.{false≢true}
-use native.Mathlib.Decide.{ℕ_discrete, dec_lt}
-use lib.ListN.{get_or-replicate, get_or-eq_default}
+use Rattle.std.proofs.Common.{◌≡◌, refl, sym, ap, ◌∙◌, Bool, true, false, not, ◌&&◌, true≢false, List, ℕ, zero, suc, ◌≤◌, ◌<◌, arith, get_or, set, length, length-set, ext_get_or, Some, None, is_none, unwrap_or}
+use Rattle.std.proofs.Math.Logic.{by_cases}
+use Rattle.std.proofs.lemmas.Bool.{false≢true}
+use Rattle.std.proofs.Math.Decide.{ℕ_discrete, dec_lt}
 use Rattle.counting.specs.Paths.{Path, Circle}
 use Rattle.counting.specs.Paths.Path.{here, more}
 use Rattle.counting.proofs.Paths.{append, circle}
 use Rattle.digraph.specs.Digraph.{Layering}
 use Rattle.digraph.specs.Digraph.{Leads, Within, Leveled, flat}
 use Rattle.digraph.specs.Relaxed.{higher_of, raised, relaxed, rounds, climbs, answer, within_of, found, levels_of, LevelsMean}
-use Rattle.std.specs.Option.{is_none, unwrap_or}
 use Rattle.std.specs.Bool.{then_some}
 use Rattle.digraph.specs.Inner.{Attained}
-use Rattle.counting.proofs.Stores.{Stored, stored}
+use Rattle.counting.proofs.Stores.{Stored, stored, replicate_at}
 use Rattle.counting.proofs.Stores.Stored.{here as same, apart as other}
 use Rattle.digraph.proofs.Tests.{within_is, within_true, Climbs, climbs_all, climbs_not}
 
@@ -23,7 +21,7 @@ flat_size = refl
 
 pub flat_at : (v : ℕ) → get_or flat v 0 ≡ 0
 unfolding flat
-flat_at v = by_cases (dec_lt v 256) (λ l. get_or-replicate 256 v 0 0 l) (λ l. get_or-eq_default (replicate 256 0) 0 {n = v} (omega arith))
+flat_at v = replicate_at 0 256 v
 
 -- ---- one edge
 
@@ -179,14 +177,14 @@ levels_mean nodes edges from to W = rw (within_true nodes from to edges W) (leve
 -- ---- the meaning says it all
 
 module _ {nodes edges : ℕ} {from to : List ℕ} (W : Within nodes edges from to) where
+  end_in : {a v k : ℕ} → Path (Leads edges from to) a v (suc k) → v < nodes
+  end_in (more p s) = rw s.target at (W.to_in s.edge s.inside)
+
   -- a circle would make paths longer than any level
   pub no_circle : {acyclic : Bool} {level : List ℕ} → acyclic ≡ true → Leveled nodes edges from to acyclic level → ¬ Circle (Leads edges from to)
   no_circle t L c =
       let D = L.deepest t c.at (end_in c.round) in
       omega (arith, D.most D.start _ (append D.path c.round))
-    where
-      end_in : {a v k : ℕ} → Path (Leads edges from to) a v (suc k) → v < nodes
-      end_in (more p s) = rw s.target at (W.to_in s.edge s.inside)
 
   pub unique : (a b : Bool) {l m : List ℕ} → Leveled nodes edges from to a l → Leveled nodes edges from to b m → (a ≡ b) × (l ≡ m)
   unique true true {l} {m} L M = (refl, ext_get_or 0 l m (L.size ∙ sym M.size) (λ v _. by_cases (dec_lt v nodes) (at_node v) (λ h. L.rest v (omega arith) ∙ sym (M.rest v (omega arith)))))

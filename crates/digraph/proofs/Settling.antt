@@ -1,15 +1,16 @@
 -- The whole queue: all nodes came into it, and their levels are right; or some did not, and there is a circle. Assumes nothing.
 use Rattle.std.proofs.Common.{◌≡◌, refl, sym, ◌∙◌, Bool, true, false, true≢false, List, ℕ, zero, suc, ◌≤◌, ◌<◌, arith, get_or, eqb-true, leb-true, leb-false, leb}
-use mathlib.Core.Logic.{by_cases}
-use mathlib.Core.Bool.{and-eq-true_iff}
-use native.Mathlib.Decide.{ℕ_discrete}
-use borrow.Author.Tests.{eqb-false}
+use Rattle.std.proofs.Math.Logic.{by_cases}
+use Rattle.std.proofs.Math.Bool.{and-eq-true_iff}
+use Rattle.std.proofs.Math.Decide.{ℕ_discrete}
+use Rattle.std.proofs.lemmas.Bool.{eqb-false}
 use Rattle.std.specs.Bool.{then_some}
 use Rattle.counting.specs.Paths.{Path}
 use Rattle.counting.specs.Paths.Path.{here}
 use Rattle.counting.proofs.Counts.{count_all, count_onto, count_full, count_gap}
 use Rattle.counting.proofs.Paths.{before, circle}
 use Rattle.digraph.specs.Digraph.{Layering, Within, Leads, Leveled, flat}
+use Rattle.digraph.specs.declared.Digraph.{Digraph}
 use Rattle.digraph.specs.declared.Sorting.{Sorting}
 use Rattle.digraph.specs.declared.Lists.{Lists}
 use Rattle.digraph.specs.Relaxed.{found, levels_of}
@@ -85,19 +86,19 @@ module _ {edges : ℕ} {to : List ℕ} (G : Graph edges to) where
         go false e = rw (is (record { acyclic = false; level = flat }) (cyclic (leb-false _ _ e))) refl
 
 -- from the lists of a digraph and the first state on
-module _ {nodes edges : ℕ} {from to : List ℕ} (W : Within nodes edges from to) (l : Lists) (C : (l.edges ≡ edges) × (l.to.now ≡ to) × Chained 0 edges from l.first l.after)
-    (s : Sorting) (A : Waiting edges to (λ j. true) s.waiting) (Q : Queued nodes s.waiting s.queue s.end) (z : s.level ≡ flat) where
-  abbrev listing : Listing l.edges l.to.now l.first l.after
-  listing = record { graph = record { nodes = nodes; from = from; within = rw (C.0, C.1) W }; chained = rw C.0 C.2 }
+module _ (g : Digraph) (W : Within g.nodes g.edges g.from.now g.to.now) (l : Lists) (C : (l.graph ≡ g) × Chained 0 g.edges g.from.now l.first l.after)
+    (s : Sorting) (A : Waiting g.edges g.to.now (λ j. true) s.waiting) (Q : Queued g.nodes s.waiting s.queue s.end) (z : s.level ≡ flat) where
+  abbrev listing : Listing l.graph.edges l.graph.to.now l.first l.after
+  listing = record { graph = record { nodes = g.nodes; from = g.from.now; within = rw C.0 W }; chained = rw C.0 C.1 }
 
   first : Settled listing.graph 0 s.waiting s.level s.queue s.end
-  first = rw z (start listing.graph (rw (C.0, C.1) A) Q)
+  first = rw z (start listing.graph (rw C.0 A) Q)
 
   pub underway : Underway l 0 s
   underway = record { listing = listing; settled = first }
 
-  pub answer : (s' : Sorting) → Onward l 0 s s'.end s' → then_some (leb nodes s'.end) s'.level ≡ found (levels_of nodes edges from to)
-  answer s' O = rw (C.0, C.1) at (outcome listing.graph (O listing first))
+  pub answer : (s' : Sorting) → Onward l 0 s s'.end s' → then_some (leb g.nodes s'.end) s'.level ≡ found (levels_of g.nodes g.edges g.from.now g.to.now)
+  answer s' O = rw C.0 at (outcome listing.graph (O listing first))
 
 -- ---- what the code looks at is in its array
 

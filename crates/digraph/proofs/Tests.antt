@@ -1,10 +1,8 @@
 -- The tests of `levels_of` and what they say. Assumes nothing.
 use Rattle.std.proofs.Common.{◌≡◌, refl, sym, subst, ◌∙◌, Bool, true, false, ◌&&◌, true≢false, List, ℕ, zero, suc, ◌≤◌, ◌<◌, arith, ltb, get_or, ltb-true, ltb-false, leb-true, lt-ltb, le-leb, length, take, length-take}
-use mathlib.Core.Logic.{by_cases}
-use mathlib.Core.Bool.{and-eq-true_iff}
-use native.Mathlib.Decide.{ℕ_discrete}
-use Rattle.std.specs.List.{All}
-use Rattle.std.proofs.lemmas.Grind.{common_steps}
+use Rattle.std.proofs.Math.Logic.{by_cases}
+use Rattle.std.proofs.Math.Bool.{and-eq-true_iff}
+use Rattle.std.proofs.Math.Decide.{ℕ_discrete}
 use Rattle.std.proofs.lemmas.List.{get_or-take}
 use Rattle.digraph.specs.Digraph.{Within}
 use Rattle.digraph.specs.Relaxed.{joins, within_of, climbs}
@@ -62,14 +60,6 @@ module _ (nodes : ℕ) (from to : List ℕ) where
 -- an entry of the first n
 pub entry_of : (n : ℕ) (xs : List ℕ) {k v : ℕ} → k < length (take n xs) → v ≡ get_or (take n xs) k 0 → (k < n) × (v ≡ get_or xs k 0)
 entry_of n xs {k} l e = let h : k < n = omega (arith, length-take n xs) in (h, e ∙ get_or-take n xs k 0 h)
-
--- the first ends are nodes
-module _ {nodes edges : ℕ} (ends : List ℕ) (size : length ends ≡ 256) (few : edges ≤ 256) where
-  pub ends_below : All (λ v. v < nodes) (take edges ends) → (k : ℕ) → k < edges → get_or ends k 0 < nodes
-  ends_below all k l = rw (get_or-take edges ends k 0 l) at (all k 0 (omega (arith, length-take edges ends)))
-
-  pub below_ends : ((k : ℕ) → k < edges → get_or ends k 0 < nodes) → All (λ v. v < nodes) (take edges ends)
-  below_ends below k d l = grind (arith, common_steps, below k)
 
 -- edge j leads to a higher level
 abbrev pub Climbs : List ℕ → List ℕ → List ℕ → ℕ → Type 0

@@ -1,10 +1,10 @@
 -- The counts of the edges that wait, and the queue of the nodes for which none waits. Assumes nothing.
 use Rattle.std.proofs.Common.{◌≡◌, refl, sym, ap, ◌∙◌, ◌≢◌, Bool, true, false, not, ◌&&◌, List, ℕ, suc, ◌+◌, ◌-◌, ◌≤◌, ◌<◌, arith, add-one, eqb, get_or, set, length, length-set, replicate, get_or-set_same, get_or-set_other, eqb-true, eq-eqb, ne_eqb, below_more}
-use mathlib.Core.Logic.{by_cases}
-use native.Mathlib.Decide.{ℕ_discrete}
+use Rattle.std.proofs.Math.Logic.{by_cases}
+use Rattle.std.proofs.Math.Decide.{ℕ_discrete}
 use mir.Val.{bool_byte}
 use Rattle.counting.specs.Counts.{bit, count}
-use Rattle.counting.proofs.Counts.{without, without_same, without_other, count_agree, count_without, count_le, count_less, count_absent, all, count_all, onto_injective}
+use Rattle.counting.proofs.Counts.{without, without_same, without_other, count_agree, count_without, count_le, count_less, count_absent, all, count_all, onto_injective, tally_more}
 use Rattle.counting.proofs.Stores.{Stored, stored}
 use Rattle.counting.proofs.Stores.Stored.{here as same, apart as other}
 use Rattle.digraph.specs.Digraph.{flat}
@@ -56,14 +56,13 @@ unfolding flat count
 waiting_none to = record { size = flat_size; counts = λ w _. flat_at w }
 
 pub waiting_more : {k : ℕ} {to waiting : List ℕ} → Waiting k to (λ j. true) waiting → (w : ℕ) → w ≡ get_or to k 0 → w < 256 → Waiting (k + 1) to (λ j. true) (set waiting w (get_or waiting w 0 + 1))
-unfolding count
-waiting_more {k} {to} {waiting} A w e b = record { size = length-set waiting w _ ∙ A.size; counts = λ x l. go x l (stored waiting w _ x 0 (omega (arith, A.size))) }
-  where
-    go : (x : ℕ) → x < 256 → Stored waiting w (get_or waiting w 0 + 1) x 0 → get_or (set waiting w (get_or waiting w 0 + 1)) x 0 ≡ count (into (λ j. true) to x) (k + 1)
-    go x l (same p q) = rw (add-one k) (omega (arith, q, ap bit (eq-eqb (get_or to k 0) x (sym e ∙ sym p)), A.counts x l, ap (λ y. get_or waiting y 0) p))
-    go x l (other n q) = rw (add-one k) (omega (arith, q, ap bit (ne_eqb (get_or to k 0) x (λ p. n (sym p ∙ sym e))), A.counts x l))
+waiting_more {k} {to} {waiting} A w e b = record { size = length-set waiting w _ ∙ A.size; counts = λ x l. tally_more k to waiting w e (omega (arith, A.size)) x (A.counts x l) }
 
 -- ---- the queue
+
+-- the nodes in front of one that is stored
+pub earlier : (queue : List ℕ) (tail x i : ℕ) → i < tail → get_or (set queue tail x) i 0 ≡ get_or queue i 0
+earlier queue tail x i l = get_or-set_other queue tail i x 0 (omega arith)
 
 module _ {n : ℕ} {waiting queue : List ℕ} {tail : ℕ} (Q : Queued n waiting queue tail) where
   pub tail_in : tail ≤ n
@@ -78,9 +77,6 @@ module _ {n : ℕ} {waiting queue : List ℕ} {tail : ℕ} (Q : Queued n waiting
 
   -- a node x more, for which none waits now
   module _ (n' : ℕ) (waiting' : List ℕ) (x : ℕ) (room : tail < 256) where
-    entry : (i : ℕ) → i < tail → get_or (set queue tail x) i 0 ≡ get_or queue i 0
-    entry i l = get_or-set_other queue tail i x 0 (omega arith)
-
     last : get_or (set queue tail x) tail 0 ≡ x
     last = get_or-set_same queue tail x 0 (omega (arith, Q.size))
 
@@ -91,11 +87,11 @@ module _ {n : ℕ} {waiting queue : List ℕ} {tail : ℕ} (Q : Queued n waiting
         → Queued n' waiting' (set queue tail x) (tail + 1)
     grown up in_x now kept old many = record {
       size = length-set queue tail x ∙ Q.size;
-      node = below_more _ _ (λ i l. rw (entry i l) (omega (arith, Q.node i l))) (rw last in_x);
-      none = below_more _ _ (λ i l. rw (entry i l) (kept i l)) (rw last now);
+      node = below_more _ _ (λ i l. rw (earlier queue tail x i l) (omega (arith, Q.node i l))) (rw last in_x);
+      none = below_more _ _ (λ i l. rw (earlier queue tail x i l) (kept i l)) (rw last now);
       all = λ w b z. by_cases (ℕ_discrete w x)
           (λ e. (tail, omega arith, last ∙ sym e))
-          (λ e. let (b', z') = old w b z e in let (i, l, q) = Q.all w b' z' in (i, omega arith, entry i l ∙ q));
+          (λ e. let (b', z') = old w b z e in let (i, l, q) = Q.all w b' z' in (i, omega arith, earlier queue tail x i l ∙ q));
       many = many;
     }
 
@@ -103,14 +99,11 @@ module _ {n : ℕ} {waiting queue : List ℕ} {tail : ℕ} (Q : Queued n waiting
 pub queue_past : {n : ℕ} {waiting queue : List ℕ} {tail : ℕ} → Queued n waiting queue tail → (x : ℕ) → Queued n waiting (set queue tail x) tail
 queue_past {queue} {tail} Q x = record {
   size = length-set queue tail x ∙ Q.size;
-  node = λ i l. rw (entry i l) (Q.node i l);
-  none = λ i l. rw (entry i l) (Q.none i l);
-  all = λ w b z. let (i, l, q) = Q.all w b z in (i, l, entry i l ∙ q);
+  node = λ i l. rw (earlier queue tail x i l) (Q.node i l);
+  none = λ i l. rw (earlier queue tail x i l) (Q.none i l);
+  all = λ w b z. let (i, l, q) = Q.all w b z in (i, l, earlier queue tail x i l ∙ q);
   many = Q.many;
 }
-  where
-    entry : (i : ℕ) → i < tail → get_or (set queue tail x) i 0 ≡ get_or queue i 0
-    entry i l = get_or-set_other queue tail i x 0 (omega arith)
 
 -- an end that moves on by a test
 moved : {n : ℕ} {waiting queue : List ℕ} {tail : ℕ} (x y : ℕ) → (y ≢ 0 → Queued n waiting queue tail) → (y ≡ 0 → Queued n waiting (set queue tail x) (tail + 1))

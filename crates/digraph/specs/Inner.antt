@@ -6,6 +6,11 @@ use Rattle.digraph.specs.declared.Sorting.{Sorting}
 use Rattle.digraph.specs.declared.Lists.{Lists}
 use Rattle.digraph.specs.Digraph.{Leads, Within}
 
+-- the first m ends are nodes below n
+pub record Ends (n m : ℕ) (ends : List ℕ) : Type 0 where
+  pub few : m ≤ 256
+  pub inside : (k : ℕ) → k < m → get_or ends k 0 < n
+
 -- ---- Lists of edges by one of their two ends: for each node the first edge at it, and after each edge the next.
 
 -- edge j is on the list that starts at edge k
@@ -88,10 +93,10 @@ pub record Stepped (w row out : ℕ) (s s' : Sorting) : Type 0 where
 
 -- some digraph has these lists, and the edges out of the queue's first `head` nodes are passed
 pub record Underway (l : Lists) (head : ℕ) (s : Sorting) : Type 0 where
-  pub listing : Listing l.edges l.to.now l.first l.after
+  pub listing : Listing l.graph.edges l.graph.to.now l.first l.after
   pub settled : Settled listing.graph head s.waiting s.level s.queue s.end
 
 -- in every digraph with these lists: if before the edges out of the queue's first `head` nodes were passed, after it those out of its first `head'` are
 abbrev pub Onward : Lists → ℕ → Sorting → ℕ → Sorting → Type 0
 Onward l head s head' s' =
-    (L : Listing l.edges l.to.now l.first l.after) → Settled L.graph head s.waiting s.level s.queue s.end → Settled L.graph head' s'.waiting s'.level s'.queue s'.end
+    (L : Listing l.graph.edges l.graph.to.now l.first l.after) → Settled L.graph head s.waiting s.level s.queue s.end → Settled L.graph head' s'.waiting s'.level s'.queue s'.end

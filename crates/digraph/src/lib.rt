@@ -1,32 +1,23 @@
 // Levels of the nodes of a digraph: for each the most edges on a directed path to it; or the finding of a circle.
+// Narrowing is by `as`: there is no `From` for it, and `TryFrom` would have a failing branch where the contracts show that the number fits.
 #![tactic(auto)]
 
-ghost use Rattle.std.specs.Prelude.{◌≡◌, IsTrue, ◌↔◌, true, ℕ, ◌+◌, ◌≤◌, ◌<◌, get_or, length};
-ghost use Rattle.std.specs.List.{All};
+ghost use Rattle.std.specs.Prelude.{◌≡◌, IsTrue, ◌↔◌, true, ℕ, ◌+◌, ◌≤◌, ◌<◌, get_or};
 ghost use Rattle.digraph.specs.Digraph.{flat};
 ghost use Rattle.digraph.specs.Relaxed.{within_of, found, levels_of};
-ghost use Rattle.digraph.specs.Inner.{Chained, Waiting, Queued, Stepped, Underway, Onward};
+ghost use Rattle.digraph.specs.Inner.{Ends, Chained, Waiting, Queued, Stepped, Underway, Onward};
 
-// Whether these ends of edges are nodes.
-fn are_nodes(ends: &[u16], nodes: usize) -> bool
-    ensures { IsTrue result ↔ All (λ v. v < nodes) ends.now }
+// Whether the first `edges` of these ends are nodes.
+fn are_nodes(ends: &[u16; 256], edges: usize, nodes: usize) -> bool
+    requires { edges ≤ 256 }
+    ensures { IsTrue result ↔ ((k : ℕ) → k < edges → get_or ends.now k 0 < nodes) }
 {
-    ends.iter().all(|&v| usize::from(v) < nodes)
-}
-
-// Whether the counts are within the arrays and each edge joins two nodes.
-fn within(nodes: usize, edges: usize, from: &[u16; 256], to: &[u16; 256]) -> bool
-    ensures { result ≡ within_of nodes edges from.now to.now }
-{
-    if 256 < nodes || 256 < edges {
-        return false;
-    }
-    are_nodes(&from[..edges], nodes) && are_nodes(&to[..edges], nodes)
+    ends[..edges].iter().all(|&v| usize::from(v) < nodes)
 }
 
 // For each node the number of the edges into it.
 fn waiting_edges(edges: usize, to: &[u16; 256]) -> [u16; 256]
-    requires { (edges ≤ 256) × ((k : ℕ) → k < edges → get_or to.now k 0 < 256) }
+    requires { Ends 256 edges to.now }
     ensures { Waiting edges to.now (λ j. true) result }
 {
     let mut waiting = [0u16; 256];
@@ -39,19 +30,28 @@ fn waiting_edges(edges: usize, to: &[u16; 256]) -> [u16; 256]
 // Puts the nodes for which no edge waits in the queue; returns how many there are.
 #[tactic(auto, using(crate::proofs::Waits::places))]
 fn sources(nodes: usize, waiting: &[u16; 256], queue: &mut [u16; 256]) -> usize
-    requires { (nodes ≤ 256) × (length queue.old ≡ 256) }
+    requires { nodes ≤ 256 }
     ensures { Queued nodes waiting.now queue.new result }
 {
     let mut tail = 0;
-    for v in 0..nodes {
+    for (v, &left) in waiting[..nodes].iter().enumerate() {
         queue[tail] = v as u16;
-        tail += usize::from(waiting[v] == 0);
+        tail += usize::from(left == 0);
     }
     tail
 }
 
+// A digraph of `nodes` nodes: edge k of its `edges` edges goes from node from[k] to to[k]. The other entries are not looked at.
+#[derive(Clone, Copy)]
+pub struct Digraph<'a> {
+    pub nodes: usize,
+    pub edges: usize,
+    pub from: &'a [u16; 256],
+    pub to: &'a [u16; 256],
+}
+
 // How far the nodes are taken in topological order: for each the number of the edges into it that wait, and its level so far; and a queue
-// of the nodes for which no edge waits, `end` of them.
+// of the nodes for which no edge waits, `end` of them. Fixed memory: arrays, no heap.
 #[derive(Clone, Copy)]
 pub struct Sorting {
     pub waiting: [u16; 256],
@@ -62,15 +62,15 @@ pub struct Sorting {
 
 impl Sorting {
     // Before the first edge is passed: each of them waits.
-    pub fn start(nodes: usize, edges: usize, to: &[u16; 256]) -> Sorting
-        requires { (nodes ≤ 256) × (edges ≤ 256) × ((k : ℕ) → k < edges → get_or to.now k 0 < 256) }
-        ensures waiting { Waiting edges to.now (λ j. true) result.waiting }
-        ensures queued { Queued nodes result.waiting result.queue result.end }
+    pub fn start(graph: &Digraph) -> Sorting
+        requires { (graph.now.nodes ≤ 256) × Ends 256 graph.now.edges graph.now.to.now }
+        ensures waiting { Waiting graph.now.edges graph.now.to.now (λ j. true) result.waiting }
+        ensures queued { Queued graph.now.nodes result.waiting result.queue result.end }
         ensures level { result.level ≡ flat }
     {
-        let waiting = waiting_edges(edges, to);
+        let waiting = waiting_edges(graph.edges, graph.to);
         let mut queue = [0u16; 256];
-        let end = sources(nodes, &waiting, &mut queue);
+        let end = sources(graph.nodes, &waiting, &mut queue);
         Sorting {
             waiting,
             level: [0u16; 256],
@@ -97,28 +97,26 @@ impl Sorting {
 // Option<u8> were tried in its place, and `levels` took a tenth to a fifth longer.
 #[derive(Clone, Copy)]
 struct Lists<'a> {
-    edges: usize,
-    to: &'a [u16; 256],
+    graph: Digraph<'a>,
     first: [u16; 256],
     after: [u16; 256],
 }
 
 impl<'a> Lists<'a> {
-    // The lists, made from the last edge down.
-    fn chain(edges: usize, from: &[u16; 256], to: &'a [u16; 256]) -> Lists<'a>
-        requires { (edges ≤ 256) × ((k : ℕ) → k < edges → get_or from.now k 0 < 256) }
-        ensures { (result.edges ≡ edges) × (result.to.now ≡ to.now) × Chained 0 edges from.now result.first result.after }
+    // The lists, made from the last edge down, by its number, which is what is stored.
+    fn chain(graph: &Digraph<'a>) -> Lists<'a>
+        requires { Ends 256 graph.now.edges graph.now.from.now }
+        ensures { (result.graph ≡ graph.now) × Chained 0 graph.now.edges graph.now.from.now result.first result.after }
     {
         let mut first = [256u16; 256];
         let mut after = [256u16; 256];
-        for k in (0..edges).rev() {
-            let v = usize::from(from[k]);
+        for k in (0..graph.edges).rev() {
+            let v = usize::from(graph.from[k]);
             after[k] = first[v];
             first[v] = k as u16;
         }
         Lists {
-            edges,
-            to,
+            graph: *graph,
             first,
             after,
         }
@@ -132,13 +130,14 @@ impl<'a> Lists<'a> {
         let v = usize::from(sorting.queue[head]);
         let row = sorting.level[v];
         let mut k = usize::from(self.first[v]);
-        while k < self.edges {
-            sorting.pass(usize::from(self.to[k]), row, 1);
+        while k < self.graph.edges {
+            sorting.pass(usize::from(self.graph.to[k]), row, 1);
             k = usize::from(self.after[k]);
         }
     }
 
-    // Passes the edges out of each node in the queue, which grows meanwhile.
+    // Passes the edges out of each node in the queue, which grows meanwhile: so no `for`. rings has these lines too, with a pass that may stop: one function
+    // over both would ask its caller for what a pass keeps, and be longer than both.
     fn settle(&self, sorting: &mut Sorting)
         requires { Underway self.now 0 sorting.old }
         ensures { Onward self.now 0 sorting.old sorting.new.end sorting.new }
@@ -151,15 +150,33 @@ impl<'a> Lists<'a> {
     }
 }
 
-// The level of each of `nodes` nodes, where the edges from `from` to `to` make no circle; none where they make one, and where an end is no node.
-pub fn levels(nodes: usize, edges: usize, from: &[u16; 256], to: &[u16; 256]) -> Option<[u16; 256]>
-    ensures { result ≡ found (levels_of nodes edges from.now to.now) }
-{
-    if !within(nodes, edges, from, to) {
-        return None;
+impl<'a> Digraph<'a> {
+    // Whether the counts are within the arrays and each edge joins two nodes.
+    fn is_within(&self) -> bool
+        ensures { result ≡ within_of self.now.nodes self.now.edges self.now.from.now self.now.to.now }
+    {
+        let Digraph {
+            nodes,
+            edges,
+            from,
+            to,
+        } = *self;
+        if 256 < nodes || 256 < edges {
+            return false;
+        }
+        are_nodes(from, edges, nodes) && are_nodes(to, edges, nodes)
     }
-    let lists = Lists::chain(edges, from, to);
-    let mut sorting = Sorting::start(nodes, edges, to);
-    lists.settle(&mut sorting);
-    (nodes <= sorting.end).then_some(sorting.level)
+
+    // The level of each node, where the edges make no circle; none where they make one, and where an end is no node.
+    pub fn levels(&self) -> Option<[u16; 256]>
+        ensures { result ≡ found (levels_of self.now.nodes self.now.edges self.now.from.now self.now.to.now) }
+    {
+        if !self.is_within() {
+            return None;
+        }
+        let lists = Lists::chain(self);
+        let mut sorting = Sorting::start(self);
+        lists.settle(&mut sorting);
+        (self.nodes <= sorting.end).then_some(sorting.level)
+    }
 }

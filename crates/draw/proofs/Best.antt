@@ -1,6 +1,6 @@
 -- The best of the values of the numbers below n that pass, found one by one. Assumes nothing.
 use Rattle.std.proofs.Common.{ℕ, zero, suc, ◌+◌, ◌≤◌, ◌<◌, min, max, ◌≡◌, refl, sym, ap, ◌∙◌, Bool, true, false, cond, add-one, arith}
-use native.Mathlib.Decide.{ℕ_discrete}
+use Rattle.std.proofs.Math.Decide.{ℕ_discrete}
 use Rattle.counting.proofs.Iterate.{by_bool}
 use Rattle.draw.specs.Inner.{best_below}
 

@@ -1,11 +1,11 @@
 -- The columns beside the edges of a sound sheet. Assumes nothing.
 use Rattle.std.proofs.Common.{ℕ, ◌+◌, ◌*◌, ◌<◌, ◌≡◌, refl, ap, ◌∙◌, ◌≢◌, List, arith, get_or, ne_eqb}
-use mathlib.Core.Logic.{by_cases}
-use native.Mathlib.Decide.{ℕ_discrete}
+use Rattle.std.proofs.Math.Logic.{by_cases}
+use Rattle.std.proofs.Math.Decide.{ℕ_discrete}
 use Rattle.digraph.specs.Digraph.{Within}
-use Rattle.sheet.specs.declared.Sheet.{Sheet}
+use Rattle.clauses.specs.declared.Sheet.{Sheet}
 use Rattle.clauses.specs.Darts.{tail_dart}
-use Rattle.clauses.specs.Inner.{Ends}
+use Rattle.digraph.specs.Inner.{Ends}
 use Rattle.sheet.specs.Sound.{Sound}
 use Rattle.sheet.specs.Check.{face_table, face, face_count, face_from, face_to, edge_table, column_levels, column}
 use Rattle.soundness.proofs.Columns.{table_at, ends_root, ends_other, columns_within, column_law}

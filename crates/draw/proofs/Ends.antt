@@ -1,14 +1,14 @@
 -- The edges that leave a vertex of a sound sheet reach as far as all its edges; vertex 1, which none leaves, goes as far as vertex 0. Assumes nothing.
 use Rattle.std.proofs.Common.{ℕ, ◌-◌, ◌/◌, ◌≤◌, ◌<◌, ◌≡◌, refl, sym, ap, ◌∙◌, ◌≢◌, true, cond, arith, eqb, ne_eqb, lt-ltb, le-ltb}
-use mathlib.Core.Logic.{by_cases}
-use native.Mathlib.Decide.{ℕ_discrete, dec_lt}
+use Rattle.std.proofs.Math.Logic.{by_cases}
+use Rattle.std.proofs.Math.Decide.{ℕ_discrete, dec_lt}
 use Rattle.planarmap.proofs.Laws.{next_below}
 use Rattle.planarmap.proofs.Corners.{has_corners}
 use Rattle.planarmap.proofs.Spans.{column_of_law, long_extent}
 use Rattle.planarmap.proofs.Sides.{right_side, source_first, sink_first}
 use Rattle.clauses.specs.Darts.{tail_dart, head_dart, is_tail}
 use Rattle.clauses.proofs.Touching.{touches_tail, touches_head}
-use Rattle.sheet.specs.declared.Sheet.{Sheet}
+use Rattle.clauses.specs.declared.Sheet.{Sheet}
 use Rattle.sheet.specs.Darts.{tail, darts, vertex, next, touches}
 use Rattle.sheet.specs.Sound.{Sound}
 use Rattle.sheet.specs.Check.{face, column}

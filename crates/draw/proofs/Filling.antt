@@ -1,7 +1,7 @@
 -- Arrays that are filled entry by entry. Assumes nothing.
-use Rattle.std.proofs.Common.{ℕ, zero, suc, ◌+◌, ◌-◌, ◌≤◌, ◌<◌, ◌≡◌, refl, sym, ap, ◌∙◌, ◌≢◌, List, ◌++◌, add-one, arith, get_or, set, length, length-set, replicate, ext_get_or}
-use lib.Seq.{set_at, append_snoc, set-append_left}
-use Rattle.std.proofs.lemmas.List.{length-replicate, get_or-replicate}
+use Rattle.std.proofs.Common.{ℕ, zero, suc, ◌+◌, ◌-◌, ◌≤◌, ◌<◌, ◌≡◌, refl, sym, ap, ap₂, ◌∙◌, ◌≢◌, List, ◌++◌, add-one, arith, get_or, set, take, drop, length, length-set, replicate, ext_get_or}
+use Rattle.std.proofs.Math.Seq.{set_at, append_snoc, set-append_left}
+use Rattle.std.proofs.lemmas.List.{append-nil, take-replicate, drop-replicate, length-replicate, get_or-replicate}
 use Rattle.std.specs.Array.{AllOfLen}
 use Rattle.counting.specs.Below.{tabulate}
 use Rattle.counting.proofs.Below.{length_tabulate, get_d_tabulate, get_d_tabulated}
@@ -15,10 +15,6 @@ tabulate_agree f g zero h = refl
 tabulate_agree f g (suc n) h = rw (tabulate_agree f g n (λ k l. h k (omega arith)), h n (omega arith)) refl
 
 module _ {A : Type 0} (f : ℕ → A) (size : ℕ) (z : A) where
-  pub table_none : replicate size z ≡ table f 0 size z
-  unfolding table tabulate
-  table_none = let e : size - 0 ≡ size = omega arith in rw e refl
-
   pub table_more : (k : ℕ) → k < size → (l : List A) → l ≡ table f k size z → (x : A) → x ≡ f k → set l k x ≡ table f (k + 1) size z
   unfolding table tabulate
   table_more k h l e x q =
@@ -26,8 +22,18 @@ module _ {A : Type 0} (f : ℕ → A) (size : ℕ) (z : A) where
       rw (e, q, d) (set_at (tabulate f k) z (replicate (size - (k + 1)) z) (f k) k (length_tabulate f k) ∙ sym (append_snoc (tabulate f k) (f k) (replicate (size - (k + 1)) z))
       ∙ rw (add-one k) refl)
 
-  pub table_over : (k n : ℕ) (l : List A) → l ≡ table f k size z → k ≤ n → n ≤ k → l ≡ table f n size z
-  table_over k n l e a b = let q : k ≡ n = omega arith in rw q at e
+  -- the first m entries of an array, filled
+  pub table_front : (m : ℕ) → m ≤ size → take m (replicate size z) ≡ table f 0 m z
+  unfolding table tabulate
+  table_front m h = let e : m - 0 ≡ m = omega arith in rw e (take-replicate m size z h)
+
+  pub table_whole : (m k : ℕ) → k ≤ m → m ≤ k → (l : List A) → l ≡ table f k m z → l ++ drop m (replicate size z) ≡ table f m size z
+  unfolding table
+  table_whole m k a b l e =
+      let q : k ≡ m = omega arith in
+      let none : m - m ≡ 0 = omega arith in
+      let full : table f m m z ≡ tabulate f m = ap (λ n. tabulate f m ++ replicate n z) none ∙ append-nil (tabulate f m) in
+      ap₂ (λ (x y : List A). x ++ y) (rw q at e ∙ full) (drop-replicate m size z)
 
   pub table_at : (d : A) (n k : ℕ) → k < n → get_or (table f n size z) k d ≡ f k
   unfolding table

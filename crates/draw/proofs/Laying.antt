@@ -2,9 +2,9 @@
 use Rattle.std.proofs.Common.{ℕ, ◌≤◌, ◌<◌, ◌≡◌, refl, ap, ◌∙◌, List, arith, get_or, Option, Some}
 use Rattle.digraph.specs.Relaxed.{found, levels_of}
 use Rattle.soundness.proofs.Columns.{columns_acyclic}
-use Rattle.sheet.specs.declared.Sheet.{Sheet}
+use Rattle.clauses.specs.declared.Sheet.{Sheet}
 use Rattle.sheet.specs.declared.Findings.{Findings}
-use Rattle.clauses.specs.Inner.{Ends}
+use Rattle.digraph.specs.Inner.{Ends}
 use Rattle.sheet.specs.Sound.{Sound}
 use Rattle.sheet.specs.Check.{row_levels, face_from, face_to, edge_table, column_levels}
 use Rattle.drawing.specs.declared.Drawing.{Drawing}

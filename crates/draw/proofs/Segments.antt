@@ -1,8 +1,8 @@
 -- The drawing that is composed from rows and columns is the drawing of the sheet. Assumes nothing.
 use Rattle.std.proofs.Common.{ℕ, ◌+◌, ◌<◌, min, max, ◌≡◌, refl, ◌∙◌, ◌≢◌, Bool, List, arith, eqb, get_or, eqb-true, eq-eqb, ne_eqb}
-use mathlib.Core.Logic.{by_cases}
-use native.Mathlib.Decide.{ℕ_discrete}
-use Rattle.sheet.specs.declared.Sheet.{Sheet}
+use Rattle.std.proofs.Math.Logic.{by_cases}
+use Rattle.std.proofs.Math.Decide.{ℕ_discrete}
+use Rattle.clauses.specs.declared.Sheet.{Sheet}
 use Rattle.sheet.specs.Darts.{tail}
 use Rattle.sheet.specs.Sound.{Sound}
 use Rattle.sheet.specs.Check.{row_levels, row}

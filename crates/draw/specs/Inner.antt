@@ -1,7 +1,7 @@
 -- What the functions behind draw compute, over the lists that they read.
 use Rattle.std.specs.Prelude.{ℕ, zero, suc, ◌+◌, ◌-◌, ◌*◌, ◌≤◌, ◌<◌, min, max, ◌≢◌, Bool, cond, List, ◌++◌, eqb, get_or, replicate}
 use Rattle.counting.specs.Below.{tabulate}
-use Rattle.sheet.specs.declared.Sheet.{Sheet}
+use Rattle.clauses.specs.declared.Sheet.{Sheet}
 use Rattle.drawing.specs.declared.VertexSegment.{VertexSegment}
 use Rattle.drawing.specs.declared.EdgeSegment.{EdgeSegment}
 use Rattle.drawing.specs.declared.Drawing.{Drawing}

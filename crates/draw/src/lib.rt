@@ -2,42 +2,45 @@
 #![tactic(auto)]
 
 ghost use Rattle.std.specs.Prelude.{◌≡◌, ℕ, ◌≤◌, ◌<◌, get_or};
-ghost use Rattle.clauses.specs.Inner.{Ends};
+ghost use Rattle.digraph.specs.Inner.{Ends};
 ghost use Rattle.sheet.specs.Sound.{Sound};
 ghost use Rattle.drawing.specs.Draw.{no_vertex_segment, no_edge_segment, draw_call, returned};
 ghost use Rattle.draw.specs.Inner.{table, leading_faces, column_beside, AtLeast, edge_from, unreached_from, segment_from, widened_by, drawing_from};
 
 use answers::Refusal;
+use digraph::Digraph;
 use drawing::{Drawing, EdgeSegment, VertexSegment};
 use sheet::Sheet;
 
-// An array whose first m entries a function gives; the others are `zero`. (`array::from_fn` would call it for all N.)
+// An array whose first m entries a function gives; the others are `zero`. (`array::from_fn` would go over all N, with a branch at each.)
 fn table<T: Copy, const N: usize, F: Fn(usize) -> T>(m: usize, zero: T, entry: F) -> [T; N]
     requires few { m ≤ N }
     requires callable { (k : ℕ) → k < m → F.pre entry k }
     ensures { (of : ℕ → T) → ((k : ℕ) (x : T) → k < m → F.post entry k x → x ≡ of k) → result ≡ table of m N zero }
 {
     let mut entries = [zero; N];
-    for k in 0..m {
-        entries[k] = entry(k);
+    for (k, place) in entries[..m].iter_mut().enumerate() {
+        *place = entry(k);
     }
     entries
 }
 
-// The faces between which each of m edges leads: from which, where `side` is 0, or to which, where it is 1. An edge leads from its left face to its right
-// face, edge 0 from its right face to its left face.
+// The face from which each of m edges leads: its left face, of edge 0 the right one.
 #[tactic(auto, unfolding(crate::specs::Inner::leading_face, crate::specs::Inner::leading_faces))]
-fn leading_faces(m: usize, side: usize, faces: &[u16; 512]) -> [u16; 256]
-    requires { (0 < m) × (m ≤ 256) × (side < 2) }
-    ensures { result ≡ leading_faces m side faces.now }
+fn faces_before(m: usize, faces: &[u16; 512]) -> [u16; 256]
+    requires { (0 < m) × (m ≤ 256) }
+    ensures { result ≡ leading_faces m 0 faces.now }
 {
-    table(m, 0, |k| {
-        if k == 0 {
-            faces[1 - side]
-        } else {
-            faces[2 * k + side]
-        }
-    })
+    table(m, 0, |k| if k == 0 { faces[1] } else { faces[2 * k] })
+}
+
+// The face to which each of m edges leads: its right face, of edge 0 the left one. (One function for both sides would take a number for the side.)
+#[tactic(auto, unfolding(crate::specs::Inner::leading_face, crate::specs::Inner::leading_faces))]
+fn faces_after(m: usize, faces: &[u16; 512]) -> [u16; 256]
+    requires { (0 < m) × (m ≤ 256) }
+    ensures { result ≡ leading_faces m 1 faces.now }
+{
+    table(m, 0, |k| if k == 0 { faces[0] } else { faces[2 * k + 1] })
 }
 
 // The column of the face beside each of m edges, less `less`; of edge 0 the column `last`.
@@ -61,22 +64,6 @@ fn columns_beside(
     })
 }
 
-// The segment of each edge.
-fn edge_segments(s: &Sheet, rows: &[u16; 256], columns: &[u16; 256]) -> [EdgeSegment; 256]
-    requires { Ends 256 s.now.edges s.now.tails × Ends 256 s.now.edges s.now.heads }
-    ensures { result ≡ table (edge_from s.now.tails s.now.heads rows.now columns.now) s.now.edges 256 no_edge_segment }
-{
-    table(
-        s.edges,
-        EdgeSegment::default(),
-        |k| EdgeSegment {
-            column: columns[k],
-            low: rows[usize::from(s.tails[k])],
-            high: rows[usize::from(s.heads[k])],
-        },
-    )
-}
-
 // A vertex's segment, widened on the left to an edge's column and on the right as far as the edge lets it go.
 fn widened(at: VertexSegment, column: u16, end: u16) -> VertexSegment
     ensures { result ≡ widened_by at column end }
@@ -88,7 +75,8 @@ fn widened(at: VertexSegment, column: u16, end: u16) -> VertexSegment
     }
 }
 
-// The segments of n vertices of which no edge was seen: any column is less than the first one, `u16::MAX`.
+// The segments of n vertices of which no edge was seen: any column is less than the first one, `u16::MAX`, from which the least is taken. Rows are a table
+// with an entry for every vertex there may be: an array and a count, as the other tables.
 fn unreached(n: usize, rows: &[u16; 256]) -> [VertexSegment; 128]
     requires { n ≤ 128 }
     ensures { result ≡ table (unreached_from rows.now) n 128 no_vertex_segment }
@@ -104,39 +92,62 @@ fn unreached(n: usize, rows: &[u16; 256]) -> [VertexSegment; 128]
     )
 }
 
-// The segment of each vertex, widened by each edge that leaves it: those that enter it stand between these. None leaves vertex 1, which goes as far as
-// vertex 0.
-fn vertex_segments(
-    s: &Sheet,
-    rows: &[u16; 256],
-    columns: &[u16; 256],
-    ends: &[u16; 256],
-) -> [VertexSegment; 128]
-    requires { (1 < s.now.vertices) × (s.now.vertices ≤ 128) × Ends s.now.vertices s.now.edges s.now.tails }
-    ensures { result ≡ table (segment_from s.now.edges s.now.tails rows.now columns.now ends.now) s.now.vertices 128 no_vertex_segment }
-{
-    let mut vertices = unreached(s.vertices, rows);
-    for k in 0..s.edges {
-        let tail = usize::from(s.tails[k]);
-        vertices[tail] = widened(vertices[tail], columns[k], ends[k]);
-    }
-    vertices[1] = VertexSegment {
-        row: rows[1],
-        ..vertices[0]
-    };
-    vertices
+// Where the parts of a sheet lie: the rows of its vertices, the columns of its edges, and how far right these let their vertices go.
+#[derive(Clone, Copy)]
+struct Places<'a> {
+    sheet: &'a Sheet,
+    rows: &'a [u16; 256],
+    columns: &'a [u16; 256],
+    ends: &'a [u16; 256],
 }
 
-// The drawing, from the rows of the vertices, the columns of the edges and how far right these let their vertices go.
-fn compose(s: &Sheet, rows: &[u16; 256], columns: &[u16; 256], ends: &[u16; 256]) -> Drawing
-    requires { Sound s.now × (get_or rows.now 1 0 < 256) × (get_or columns.now 0 0 < 256) }
-    ensures { result ≡ drawing_from s.now rows.now columns.now ends.now }
-{
-    Drawing {
-        rows: rows[1] + 1,
-        columns: columns[0] + 1,
-        vertices: vertex_segments(s, rows, columns, ends),
-        edges: edge_segments(s, rows, columns),
+impl Places<'_> {
+    // The segment of each edge.
+    fn edge_segments(self) -> [EdgeSegment; 256]
+        requires { Ends 256 self.sheet.now.edges self.sheet.now.tails × Ends 256 self.sheet.now.edges self.sheet.now.heads }
+        ensures { result ≡ table (edge_from self.entry.sheet.now.tails self.entry.sheet.now.heads self.entry.rows.now self.entry.columns.now) self.entry.sheet.now.edges 256 no_edge_segment }
+    {
+        table(
+            self.sheet.edges,
+            EdgeSegment::default(),
+            |k| EdgeSegment {
+                column: self.columns[k],
+                low: self.rows[usize::from(self.sheet.tails[k])],
+                high: self.rows[usize::from(self.sheet.heads[k])],
+            },
+        )
+    }
+
+    // The segment of each vertex, widened by each edge that leaves it: those that enter it stand between these. None leaves vertex 1, which goes as far as
+    // vertex 0.
+    fn vertex_segments(self) -> [VertexSegment; 128]
+        requires { (1 < self.sheet.now.vertices) × (self.sheet.now.vertices ≤ 128) × Ends self.sheet.now.vertices self.sheet.now.edges self.sheet.now.tails }
+        ensures { result ≡ table (segment_from self.entry.sheet.now.edges self.entry.sheet.now.tails self.entry.rows.now self.entry.columns.now self.entry.ends.now) self.entry.sheet.now.vertices 128 no_vertex_segment }
+    {
+        let mut vertices = unreached(self.sheet.vertices, self.rows);
+        // By place: three arrays are read side by side, and two zips, one in the other, are no plainer.
+        for k in 0..self.sheet.edges {
+            let tail = usize::from(self.sheet.tails[k]);
+            vertices[tail] = widened(vertices[tail], self.columns[k], self.ends[k]);
+        }
+        vertices[1] = VertexSegment {
+            row: self.rows[1],
+            ..vertices[0]
+        };
+        vertices
+    }
+
+    // The drawing.
+    fn compose(self) -> Drawing
+        requires { Sound self.sheet.now × (get_or self.rows.now 1 0 < 256) × (get_or self.columns.now 0 0 < 256) }
+        ensures { result ≡ drawing_from self.entry.sheet.now self.entry.rows.now self.entry.columns.now self.entry.ends.now }
+    {
+        Drawing {
+            rows: self.rows[1] + 1,
+            columns: self.columns[0] + 1,
+            vertices: self.vertex_segments(),
+            edges: self.edge_segments(),
+        }
     }
 }
 
@@ -145,22 +156,31 @@ pub fn draw(s: Sheet) -> Result<Drawing, Refusal>
     ensures { result ≡ draw_call s }
 {
     let found = sheet::examine(s)?;
-    let from = leading_faces(s.edges, 0, &found.faces);
-    let to = leading_faces(s.edges, 1, &found.faces);
+    let from = faces_before(s.edges, &found.faces);
+    let to = faces_after(s.edges, &found.faces);
     // The faces of a sound sheet make no circle.
-    let level = digraph::levels(found.count, s.edges, &from, &to).unwrap();
+    let graph = Digraph {
+        nodes: found.count,
+        edges: s.edges,
+        from: &from,
+        to: &to,
+    };
+    let level = graph.levels().unwrap();
     let last = level[usize::from(to[0])];
     let columns = columns_beside(s.edges, &level, &from, last, 0);
     let ends = columns_beside(s.edges, &level, &to, last, 1);
-    Ok(compose(&s, &found.rows, &columns, &ends))
+    let places = Places {
+        sheet: &s,
+        rows: &found.rows,
+        columns: &columns,
+        ends: &ends,
+    };
+    Ok(places.compose())
 }
 
 // What draw returns beside its answer: refused, a record of zeros.
 pub fn returned(answer: Result<Drawing, Refusal>) -> Drawing
     ensures { result ≡ returned answer }
 {
-    match answer {
-        Ok(drawing) => drawing,
-        Err(_) => Drawing::default(),
-    }
+    answer.unwrap_or_default()
 }

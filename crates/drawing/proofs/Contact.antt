@@ -1,14 +1,14 @@
 -- Nothing touches that may not, in the drawing of a sound sheet.
 use Rattle.std.proofs.Common.{◌≡◌, sym, ◌∙◌, ap, subst, inl, inr, Bool, true, false, ℕ, ◌*◌, ◌<◌, mul-le-mul_right, arith}
-use mathlib.Core.Logic.{by_cases}
-use native.Mathlib.Decide.{ℕ_discrete}
+use Rattle.std.proofs.Math.Logic.{by_cases}
+use Rattle.std.proofs.Math.Decide.{ℕ_discrete}
 use Rattle.planarmap.specs.Order.{Edge}
 use Rattle.planarmap.specs.Contact.{NoContact, Reaches, Joins}
 use Rattle.planarmap.specs.Contact as plane
 use Rattle.planarmap.proofs.Contact.{apart}
 use Rattle.planarmap.proofs.Spans.{long_extent, long_reaches}
 use Rattle.planarmap.proofs.Points.{no_contact}
-use Rattle.sheet.specs.declared.Sheet.{Sheet}
+use Rattle.clauses.specs.declared.Sheet.{Sheet}
 use Rattle.clauses.specs.Darts.{tail_dart, opposite}
 use Rattle.sheet.specs.Darts.{vertex}
 use Rattle.sheet.specs.Sound.{Sound}

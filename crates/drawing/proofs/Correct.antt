@@ -1,10 +1,10 @@
 -- Demand 3: the drawing of a sound sheet is right.
 use Rattle.std.proofs.Common.{ap, true, false, ℕ, ◌<◌, arith}
-use mathlib.Core.Logic.{by_cases}
-use native.Mathlib.Decide.{ℕ_discrete}
+use Rattle.std.proofs.Math.Logic.{by_cases}
+use Rattle.std.proofs.Math.Decide.{ℕ_discrete}
 use Rattle.counting.proofs.Paths.{longest_unique}
 use Rattle.planarmap.proofs.Chain.{row_ends}
-use Rattle.sheet.specs.declared.Sheet.{Sheet}
+use Rattle.clauses.specs.declared.Sheet.{Sheet}
 use Rattle.clauses.specs.Darts.{tail_dart, head_dart}
 use Rattle.sheet.specs.Darts.{head}
 use Rattle.sheet.specs.Sound.{Sound}

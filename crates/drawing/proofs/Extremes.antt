@@ -1,9 +1,9 @@
 -- The values of the numbers below n that pass a test, as a list; the least and the greatest of a list. Assumes nothing.
 use Rattle.std.proofs.Common.{◌≡◌, refl, sym, ◌∙◌, ap, inl, inr, Bool, true, false, cond, List, [], ◌∷◌, map, ℕ, zero, suc, ◌≤◌, ◌<◌, max, arith}
-use mathlib.Core.Logic.{by_cases}
+use Rattle.std.proofs.Math.Logic.{by_cases}
 use mathlib.Core.List.Memᴰ
 use mathlib.Core.List.{Memᴰ}
-use native.Mathlib.Decide.{ℕ_discrete, dec_le}
+use Rattle.std.proofs.Math.Decide.{ℕ_discrete, dec_le}
 use Rattle.counting.specs.Below.{list_below}
 use Rattle.drawing.specs.Draw.{least, greatest}
 

@@ -1,9 +1,10 @@
 -- The drawing of a sound sheet is as laid down.
-use Rattle.std.proofs.Common.{◌≡◌, refl, sym, ◌∙◌, ap, true, List, [], ◌∷◌, ◌++◌, ℕ, zero, suc, ◌+◌, ◌-◌, ◌≤◌, ◌<◌, arith, get_or, length, length-append, replicate}
-use lib.ListN.{length-replicate}
+use Rattle.std.proofs.Common.{◌≡◌, sym, ◌∙◌, ap, true, List, [], ◌∷◌, ◌++◌, ℕ, zero, suc, ◌+◌, ◌-◌, ◌≤◌, ◌<◌, arith, get_or, length, length-append, replicate}
+use Rattle.std.proofs.Math.ListN.{length-replicate}
 use Rattle.counting.specs.Below.{tabulate}
 use Rattle.counting.proofs.Below.{length_tabulate}
-use Rattle.sheet.specs.declared.Sheet.{Sheet}
+use Rattle.counting.proofs.Stores.{replicate_at}
+use Rattle.clauses.specs.declared.Sheet.{Sheet}
 use Rattle.clauses.specs.Darts.{tail_dart}
 use Rattle.sheet.specs.Darts.{tail, head}
 use Rattle.sheet.specs.Sound.{Sound, Faces}
@@ -13,25 +14,21 @@ use Rattle.soundness.proofs.Darts.{dart_below}
 use Rattle.soundness.proofs.Tests.{lt_says}
 use Rattle.soundness.proofs.Rows.{row_law}
 use Rattle.soundness.proofs.Columns.{column_law}
+use Rattle.soundness.proofs.Ends.{touches_says}
 use Rattle.drawing.specs.declared.Drawing.{Drawing}
 use Rattle.drawing.specs.Draw.{edge_column, columns_at, first_column, last_column, vertex_segment, edge_segment, no_vertex_segment, no_edge_segment, drawing_of}
 use Rattle.drawing.specs.Points.{vertex_of, edge_of}
 use Rattle.drawing.specs.Laid.{EdgeAt, LeastColumn, GreatestColumn, Laid}
 use Rattle.drawing.proofs.Extremes.{Extreme, least_extreme, greatest_extreme}
-use Rattle.drawing.proofs.Segments.{vertex_entry, vertex_row, edge_entry, edge_stands, touches_says, edge_found, edge_bound}
+use Rattle.drawing.proofs.Segments.{vertex_entry, vertex_row, edge_entry, edge_stands, edge_found, edge_bound}
 use Rattle.drawing.proofs.Renumbering.{column_renumbered}
 use Rattle.drawing.proofs.Sides.{to_right}
 
 -- ---- a table that is filled up with one value
 
 module _ {A : Type 0} (z : A) where
-  filled_at : (n k : ℕ) → get_or (replicate n z) k z ≡ z
-  filled_at zero k = refl
-  filled_at (suc n) zero = refl
-  filled_at (suc n) (suc k) = filled_at n k
-
   past_at : (xs : List A) (n k : ℕ) → length xs ≤ k → get_or (xs ++ replicate n z) k z ≡ z
-  past_at [] n k h = filled_at n k
+  past_at [] n k h = replicate_at z n k
   past_at (x ∷ xs) n zero h = absurd (omega arith)
   past_at (x ∷ xs) n (suc k) h = past_at xs n k (omega arith)
 

@@ -1,9 +1,9 @@
 -- The ring of each bar stands in its order, in the drawing of a sound sheet.
 use Rattle.std.proofs.Common.{◌≡◌, refl, sym, ◌∙◌, ap, subst, ◌≢◌, ◌⊎◌, inl, inr, List, ◌++◌, ℕ, zero, suc, ◌/◌, ◌<◌, arith, get_or}
-use mathlib.Core.Logic.{by_cases}
+use Rattle.std.proofs.Math.Logic.{by_cases}
 use mathlib.Core.List.Memᴰ
 use mathlib.Core.List.{Memᴰ}
-use native.Mathlib.Decide.{ℕ_discrete}
+use Rattle.std.proofs.Math.Decide.{ℕ_discrete}
 use Rattle.counting.specs.Orbits.{iter}
 use Rattle.counting.proofs.Iterate.{clash, iter_keeps}
 use Rattle.counting.proofs.Pigeonhole.{Found, find}
@@ -16,7 +16,7 @@ use Rattle.planarmap.specs.Rotation as plane_order
 use Rattle.planarmap.specs.Rotation.Before.{rising, turning, falling}
 use Rattle.planarmap.specs.Rotation.Follows.{directly, round}
 use Rattle.planarmap.proofs.Rotation.{clockwise}
-use Rattle.sheet.specs.declared.Sheet.{Sheet}
+use Rattle.clauses.specs.declared.Sheet.{Sheet}
 use Rattle.sheet.specs.Darts.{darts, vertex, next}
 use Rattle.sheet.specs.Sound.{Sound}
 use Rattle.sheet.specs.Check.{column}

@@ -3,7 +3,7 @@ use Rattle.std.proofs.Common.{◌≡◌, refl, sym, ◌∙◌, subst, true, ℕ,
 use Rattle.counting.specs.Paths.{Path}
 use Rattle.counting.specs.Paths.Path.{here, more}
 use Rattle.counting.proofs.Orbits.{kept_joined}
-use Rattle.sheet.specs.declared.Sheet.{Sheet}
+use Rattle.clauses.specs.declared.Sheet.{Sheet}
 use Rattle.clauses.specs.Darts.{tail_dart, head_dart}
 use Rattle.sheet.specs.Darts.{darts}
 use Rattle.sheet.specs.Sound.{Sound, Faces}

@@ -4,7 +4,7 @@ use mathlib.Core.List.Memᴰ
 use mathlib.Core.List.{Memᴰ}
 use Rattle.counting.specs.Orbits.{iter}
 use Rattle.counting.proofs.Iterate.{by_bool, clash, iter_shift}
-use Rattle.sheet.specs.declared.Sheet.{Sheet}
+use Rattle.clauses.specs.declared.Sheet.{Sheet}
 use Rattle.clauses.specs.Darts.{is_tail}
 use Rattle.sheet.specs.Darts.{next}
 use Rattle.drawing.specs.Clear.{Rising, Falling, Cycle}

@@ -1,8 +1,6 @@
 -- The segments of a sound sheet's drawing, read as those of its map.
-use Rattle.std.proofs.Common.{◌≡◌, refl, sym, ◌∙◌, ap, ◌≢◌, ◌⊎◌, inl, inr, Bool, true, false, cond, List, ℕ, suc, ◌-◌, ◌/◌, ◌≤◌, ◌<◌, arith, replicate, le-ltb}
-use mathlib.Core.Logic.{by_cases}
-use native.Mathlib.Decide.{ℕ_discrete}
-use Rattle.counting.proofs.Iterate.{by_bool, clash}
+use Rattle.std.proofs.Common.{◌≡◌, refl, sym, ◌∙◌, ap, ◌≢◌, Bool, true, false, List, ℕ, suc, ◌-◌, ◌/◌, ◌≤◌, ◌<◌, arith, replicate, le-ltb}
+use Rattle.counting.proofs.Iterate.{clash}
 use Rattle.planarmap.specs.Contact as plane
 use Rattle.planarmap.specs.Contact.{Least, Greatest, Long}
 use Rattle.planarmap.specs.Corners.{Right, corner_face}
@@ -11,18 +9,19 @@ use Rattle.planarmap.proofs.Laws.{next_below}
 use Rattle.planarmap.proofs.Columns.{column_laws}
 use Rattle.planarmap.proofs.Spans.{right_span}
 use Rattle.planarmap.proofs.Sides.{right_side}
-use Rattle.sheet.specs.declared.Sheet.{Sheet}
-use Rattle.clauses.specs.Darts.{is_tail, touches_of}
-use Rattle.sheet.specs.Darts.{tail, head, darts, vertex, touches}
+use Rattle.clauses.specs.declared.Sheet.{Sheet}
+use Rattle.clauses.specs.Darts.{is_tail}
+use Rattle.sheet.specs.Darts.{darts, vertex, touches, dart_at}
 use Rattle.sheet.specs.Sound.{Sound}
 use Rattle.sheet.specs.Levels.{right_face}
 use Rattle.sheet.specs.Check.{row, face, column}
 use Rattle.soundness.specs.Maps.{map_of}
 use Rattle.counting.proofs.Below.{get_d_tabulated}
-use Rattle.soundness.proofs.Tests.{Says, lt_says, eq_says, or_says}
-use Rattle.soundness.proofs.Darts.{dart, dart_is, dart_kind, dart_edge, dart_below, dart_opposite, dart_vertex, edge_below}
+use Rattle.soundness.proofs.Tests.{lt_says}
+use Rattle.soundness.proofs.Darts.{dart, dart_is, dart_kind, dart_opposite, edge_below}
 use Rattle.soundness.proofs.Plane.{plane_of}
 use Rattle.soundness.proofs.Columns.{columns_of}
+use Rattle.soundness.proofs.Ends.{at_edge, at_end, end_touches, touched}
 use Rattle.drawing.specs.Draw.{edge_column, right_column, columns_at, first_column, last_column, vertex_segment, edge_segment, no_vertex_segment, no_edge_segment, drawing_of}
 use Rattle.drawing.specs.Points.{vertex_of, edge_of}
 use Rattle.drawing.proofs.Extremes.{Extreme, least_extreme, greatest_extreme, best_is, best_bounds}
@@ -67,36 +66,21 @@ module _ (s : Sheet) where
   unfolding right_column
   right_at_law d = ap (column s) (ap (plane.right_face (map_of s)) (sym (dart_is d)) ∙ dart_right (is_tail d) (d / 2))
 
-  -- ---- the darts at a vertex, by the edges that touch it
-
-  pub touches_says : (k v : ℕ) → Says (touches s k v) ((tail s k ≡ v) ⊎ (head s k ≡ v))
-  unfolding touches_of
-  touches_says k v = or_says (eq_says (tail s k) v) (eq_says (head s k) v)
-
-  dart_touches : (d v : ℕ) → vertex s d ≡ v → touches s (d / 2) v ≡ true
-  unfolding vertex
-  dart_touches d v e = (touches_says (d / 2) v).1 (by_bool (is_tail d) (λ t. inl (rw t at e)) (λ t. inr (rw t at e)))
-
-  touching_dart : (k v : ℕ) → k < s.edges → touches s k v ≡ true → (d : ℕ) × (d < darts s) × (vertex s d ≡ v) × (d / 2 ≡ k)
-  touching_dart k v h t = elim ((touches_says k v).0 t) [ inl e ↦ at true e | inr e ↦ at false e ]
-    where
-      at : (b : Bool) → cond b (tail s k) (head s k) ≡ v → (d : ℕ) × (d < darts s) × (vertex s d ≡ v) × (d / 2 ≡ k)
-      at b e = (dart b k, dart_below b h, dart_vertex s b k ∙ e, dart_edge b k)
-
 -- ---- how far a vertex reaches
 
 module _ {s : Sheet} (S : Sound s) where
   -- each vertex has a dart
   pub some_dart : (v : ℕ) → v < s.vertices → (d : ℕ) × (d < darts s) × (vertex s d ≡ v)
-  some_dart v h = by_cases (ℕ_discrete v 0)
-      (λ e. let (d, l, q, _) = (plane_of S).bipolar.has_out h (omega arith) in (d, l, q))
-      (λ n. let (d, l, q, _) = (plane_of S).bipolar.has_in h n in (d, l, q))
+  some_dart v h =
+      let (k, l, t) = touched S v h in
+      let e = at_end s k v l t in
+      (dart_at s k v, e.below, e.here)
 
   module _ {R : ℕ → ℕ → Type 0} {best : List ℕ → ℕ} (E : Extreme R best) (column_of : ℕ → ℕ) (v : ℕ) (h : v < s.vertices) where
     -- the best column at a vertex is that of an edge that touches it, and stands to that of each such edge as R says
     pub edge_found : (k : ℕ) × (k < s.edges) × (touches s k v ≡ true) × (best (columns_at column_of s v) ≡ column_of k)
     unfolding columns_at
-    edge_found = let (d, l, q) = some_dart v h in best_is E (λ k. touches s k v) column_of s.edges (d / 2) (edge_below s l) (dart_touches s d v q)
+    edge_found = let (k, l, t) = touched S v h in best_is E (λ k. touches s k v) column_of s.edges k l t
 
     pub edge_bound : (k : ℕ) → k < s.edges → touches s k v ≡ true → R (best (columns_at column_of s v)) (column_of k)
     unfolding columns_at
@@ -107,11 +91,11 @@ module _ {s : Sheet} (S : Sound s) where
       found : (d : ℕ) × (d < darts s) × (vertex s d ≡ v) × (best (columns_at column_of s v) ≡ dart_column d)
       found =
           let (j, i, t, p) = edge_found in
-          let (d, m, r, z) = touching_dart s j v i t in
-          (d, m, r, p ∙ ap column_of (sym z) ∙ sym (same d))
+          let e = at_end s j v i t in
+          (dart_at s j v, e.below, e.here, p ∙ ap column_of (sym (at_edge s j v)) ∙ sym (same (dart_at s j v)))
 
       bound : (d : ℕ) → d < darts s → vertex s d ≡ v → R (best (columns_at column_of s v)) (dart_column d)
-      bound d l q = rw (same d) (edge_bound (d / 2) (edge_below s l) (dart_touches s d v q))
+      bound d l q = rw (same d) (edge_bound (d / 2) (edge_below s l) (end_touches s (record { below = l; here = q })))
 
   pub laws : ColumnLaws (map_of s) (column s)
   laws = column_laws (plane_of S) (columns_of S)

@@ -5,7 +5,7 @@ use Rattle.planarmap.specs.Corners.{Right, corner_face}
 use Rattle.planarmap.specs.Contact as plane
 use Rattle.planarmap.proofs.Corners.{has_corners}
 use Rattle.planarmap.proofs.Sides.{right_side}
-use Rattle.sheet.specs.declared.Sheet.{Sheet}
+use Rattle.clauses.specs.declared.Sheet.{Sheet}
 use Rattle.clauses.specs.Darts.{is_tail, head_dart}
 use Rattle.sheet.specs.Darts.{tail, head, vertex, next}
 use Rattle.sheet.specs.Sound.{Sound, Faces}

@@ -1,9 +1,9 @@
 -- What is laid down of a sound sheet's drawing leaves no choice: a drawing that meets it is the computed one.
 use Rattle.std.proofs.Common.{◌≡◌, refl, sym, ◌∙◌, ap, subst, ◌≢◌, List, ℕ, ◌+◌, ◌<◌, arith, ext_get_or}
-use mathlib.Core.Logic.{by_cases}
-use native.Mathlib.Decide.{ℕ_discrete, dec_lt}
+use Rattle.std.proofs.Math.Logic.{by_cases}
+use Rattle.std.proofs.Math.Decide.{ℕ_discrete, dec_lt}
 use Rattle.counting.proofs.Paths.{longest_unique}
-use Rattle.sheet.specs.declared.Sheet.{Sheet}
+use Rattle.clauses.specs.declared.Sheet.{Sheet}
 use Rattle.sheet.specs.Darts.{tail, head}
 use Rattle.sheet.specs.Sound.{Sound}
 use Rattle.drawing.specs.declared.VertexSegment.{VertexSegment}
@@ -22,7 +22,7 @@ vertex_equal a b c = rw (a, b, c) refl
 edge_equal : {c c' l l' h h' : ℕ} → c ≡ c' → l ≡ l' → h ≡ h' → ◌≡◌ {A = EdgeSegment} (record { column = c; low = l; high = h }) (record { column = c'; low = l'; high = h' })
 edge_equal a b c = rw (a, b, c) refl
 
-drawing_equal : {r r' c c' : ℕ} {vs vs' : List VertexSegment} {es es' : List EdgeSegment} → r ≡ r' → c ≡ c' → vs ≡ vs' → es ≡ es'
+pub drawing_equal : {r r' c c' : ℕ} {vs vs' : List VertexSegment} {es es' : List EdgeSegment} → r ≡ r' → c ≡ c' → vs ≡ vs' → es ≡ es'
     → ◌≡◌ {A = Drawing} (record { rows = r; columns = c; vertices = vs; edges = es }) (record { rows = r'; columns = c'; vertices = vs'; edges = es' })
 drawing_equal a b c d = rw (a, b, c, d) refl
 

@@ -1,7 +1,7 @@
 -- Demand 3's drawing: nothing touches that may not, every ring stands in its order, and all lies in rows and columns whose numbers are bounded.
 use Rattle.std.specs.Prelude.{ℕ, ◌+◌, ◌/◌, ◌≤◌, ◌<◌, ◌≡◌, Bool, true, false, ◌≢◌, ◌⊎◌, ◌↔◌, get_or}
 use mathlib.Core.List.{List, [], ◌∷◌, ◌++◌, Memᴰ}
-use Rattle.sheet.specs.declared.Sheet.{Sheet}
+use Rattle.clauses.specs.declared.Sheet.{Sheet}
 use Rattle.clauses.specs.Darts.{is_tail}
 use Rattle.sheet.specs.Darts.{tail, head, darts, vertex, next}
 use Rattle.drawing.specs.declared.Drawing.{Drawing}

@@ -1,7 +1,7 @@
 -- The drawing of a sheet, and draw.
 use Rattle.std.specs.Prelude.{ℕ, ◌+◌, ◌-◌, min, max, not, cond, List, [], ◌∷◌, ◌++◌, map, ltb, replicate, Result, Ok, Err}
 use Rattle.counting.specs.Below.{list_below, tabulate}
-use Rattle.sheet.specs.declared.Sheet.{Sheet}
+use Rattle.clauses.specs.declared.Sheet.{Sheet}
 use Rattle.answers.specs.Answers.{Answer}
 use Rattle.answers.specs.declared.Refusal.{Refusal}
 use Rattle.answers.specs.declared.Refusal.TheVariants.{NotSound}

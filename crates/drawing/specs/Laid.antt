@@ -1,7 +1,7 @@
 -- The drawing as 'Rows, columns and the drawing' lays it down, and C-12 the last column of a bar, with no definition that computes; what follows of
 -- the bars; and the law to the definition that computes.
 use Rattle.std.specs.Prelude.{ℕ, ◌+◌, ◌≤◌, ◌<◌, ◌≡◌, ◌≢◌, ◌⊎◌, ◌↔◌, length}
-use Rattle.sheet.specs.declared.Sheet.{Sheet}
+use Rattle.clauses.specs.declared.Sheet.{Sheet}
 use Rattle.sheet.specs.Darts.{tail, head}
 use Rattle.sheet.specs.Sound.{Sound, Faces}
 use Rattle.sheet.specs.Levels.{Row, Column, left_face, right_face}

@@ -3,7 +3,7 @@ use Rattle.std.specs.Prelude.{ℕ, List, [], ◌∷◌, ◌++◌, get_or, Result
 use Rattle.counting.specs.Below.{join_below}
 use Rattle.text.specs.Bytes.{bytes}
 use Rattle.text.specs.Written.{line}
-use Rattle.sheet.specs.declared.Sheet.{Sheet}
+use Rattle.clauses.specs.declared.Sheet.{Sheet}
 use Rattle.answers.specs.declared.Refusal.{Refusal}
 use Rattle.text.specs.Keys.{wire_key}
 use Rattle.writesheet.specs.Write.{write_answer, written, buffer_after}

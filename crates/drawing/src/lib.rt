@@ -19,7 +19,7 @@ pub struct EdgeSegment {
     pub high: u16,
 }
 
-// The drawing record; unused entries are 0.
+// The drawing record; unused entries are 0. Arrays: fixed memory, no heap, and the specification and the C interface name them.
 #[repr(C)]
 #[derive(Clone, Copy, Default)]
 pub struct Drawing {

@@ -1,7 +1,7 @@
 -- The line at the front of a text, and the edit that it reads as. Assumes nothing.
 use Rattle.std.proofs.Common.{◌≡◌, ℕ, suc, ◌+◌, ◌<◌, cond, eqb, ltb, List, [], ◌∷◌, length, get_or, Some, None, Option, refl, ◌∙◌, arith, le-ltb, lt-ltb}
 use Rattle.std.specs.List.{position_or_len}
-use native.Mathlib.Decide.{dec_lt}
+use Rattle.std.proofs.Math.Decide.{dec_lt}
 use Rattle.counting.proofs.Iterate.{by_bool}
 use Rattle.std.specs.Option.{option_map_or}
 use Rattle.text.specs.declared.Numbers.{Numbers}
@@ -18,16 +18,16 @@ module _ (bad : Edit) where
   one_is : (good : ℕ → Edit) (l : Listed) → with_one l bad (λ k _. good k) ≡ option_map_or (λ vs. good (get_or vs 0 0)) (counted 1 (numbers_of l)) bad
   one_is good l = one_counted bad (λ k _. good k) l ∙ go (numbers_of l)
     where
-      go : (o : Option Numbers) → one_by o bad (λ k _. good k) ≡ option_map_or (λ vs. good (get_or vs 0 0)) (counted 1 o) bad
+      go : (o : Option (Numbers × ℕ)) → one_by o bad (λ k _. good k) ≡ option_map_or (λ vs. good (get_or vs 0 0)) (counted 1 o) bad
       go None = refl
-      go (Some r) = by_bool (eqb r.count 1) (λ t. rw t refl) (λ t. rw t refl)
+      go (Some (r, next)) = by_bool (eqb r.count 1) (λ t. rw t refl) (λ t. rw t refl)
 
   four_is : (good : ℕ → ℕ → ℕ → ℕ → Edit) (l : Listed) → with_four l bad (λ a p b q _. good a p b q) ≡ option_map_or (λ vs. good (get_or vs 0 0) (get_or vs 1 0) (get_or vs 2 0) (get_or vs 3 0)) (counted 4 (numbers_of l)) bad
   four_is good l = four_counted bad (λ a p b q _. good a p b q) l ∙ go (numbers_of l)
     where
-      go : (o : Option Numbers) → four_by o bad (λ a p b q _. good a p b q) ≡ option_map_or (λ vs. good (get_or vs 0 0) (get_or vs 1 0) (get_or vs 2 0) (get_or vs 3 0)) (counted 4 o) bad
+      go : (o : Option (Numbers × ℕ)) → four_by o bad (λ a p b q _. good a p b q) ≡ option_map_or (λ vs. good (get_or vs 0 0) (get_or vs 1 0) (get_or vs 2 0) (get_or vs 3 0)) (counted 4 o) bad
       go None = refl
-      go (Some r) = by_bool (eqb r.count 4) (λ t. rw t refl) (λ t. rw t refl)
+      go (Some (r, next)) = by_bool (eqb r.count 4) (λ t. rw t refl) (λ t. rw t refl)
 
 -- the answers of the reading call, key after key
 pub edit_steps : (text : List ℕ) → edit_of text ≡

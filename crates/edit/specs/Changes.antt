@@ -1,7 +1,7 @@
 -- What the four edits do to a sheet.
 use Rattle.std.specs.Prelude.{ℕ, ◌+◌, ◌-◌, cond, List, map, eqb, get_or, set}
 use Rattle.counting.specs.Below.{lowest_below}
-use Rattle.sheet.specs.declared.Sheet.{Sheet}
+use Rattle.clauses.specs.declared.Sheet.{Sheet}
 use Rattle.clauses.specs.Darts.{tail_dart, head_dart}
 use Rattle.sheet.specs.Darts.{tail, head, dart_at}
 

@@ -1,6 +1,6 @@
 -- Whether a directed path leads from one bar to another, as a test that computes.
 use Rattle.std.specs.Prelude.{ℕ, zero, suc, Bool, true, false, cond, List, get_or, set, replicate}
-use Rattle.sheet.specs.declared.Sheet.{Sheet}
+use Rattle.clauses.specs.declared.Sheet.{Sheet}
 use Rattle.sheet.specs.Darts.{tail, head}
 
 -- the heads of wires 0 to k - 1 whose tails are marked are marked too

@@ -9,9 +9,10 @@ ghost use Rattle.edit.specs.Lines.{edit_of, edit_answer, line_length, read_edit}
 
 use answers::Refusal;
 use sheet::Sheet;
+use text::Reader;
 
 // An edit: put in (wire), run (bar, wire, bar, wire), take out a wire, take out a bar;
-// or the refusal of a line that is not of the layout.
+// or the refusal of a line that is not of the layout: a case of its own, since the specification names a refusal case of this enum.
 #[derive(Clone, Copy)]
 pub enum Edit {
     In(u16),
@@ -49,11 +50,13 @@ fn line_length(text: &[u8]) -> usize
         .map_or(text.len(), |i| i + 1)
 }
 
-// The numbers of the line at the front of a text, if it has the key and so many of them.
+// The numbers of the line at the front of a text, if it has the key and so many of them. Four by a count: an array of the length asked for
+// would be a second one, copied out of the four through a conversion that may fail.
 fn numbers(text: &[u8], key: &[u8], count: usize) -> Option<[u16; 4]>
     ensures { result ≡ counted count (numbers_of (last_line_at key.now text.now 0)) }
 {
-    let read = text::last_line(text, 0, key)?;
+    let mut reader = Reader { text, at: 0 };
+    let read = reader.last_line(key)?;
     if read.count != count {
         return None;
     }
@@ -99,8 +102,5 @@ pub fn read_edit(text: &[u8]) -> EditRead
 pub fn sheet_after(s: Sheet, answer: Result<Sheet, Refusal>) -> Sheet
     ensures { result ≡ sheet_after s answer }
 {
-    match answer {
-        Ok(made) => made,
-        Err(_) => s,
-    }
+    answer.unwrap_or(s)
 }

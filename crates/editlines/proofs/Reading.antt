@@ -1,10 +1,5 @@
 -- Read edit answers as laid down, and in no other way. Assumes nothing.
-use Prim.Native.Nat.{ℕ, ◌<◌}
-use mathlib.Core.Path.{◌≡◌, refl, sym, ◌∙◌, ap}
-use mathlib.Core.Logic.{◌≢◌, ◌⊎◌, inl, inr}
-use mathlib.Core.List.{List, [], ◌∷◌, ◌++◌}
-use native.Mathlib.Omega.{arith}
-use lib.ListN.{get_or, length}
+use Rattle.std.proofs.Common.{ℕ, ◌<◌, ◌≡◌, refl, sym, ◌∙◌, ap, ◌≢◌, ◌⊎◌, inl, inr, List, [], ◌∷◌, ◌++◌, arith, get_or, length}
 use Rattle.text.specs.Written.{separated}
 use Rattle.layout.specs.Layout.{Stands, LastLineAt}
 use Rattle.layout.specs.Layout.LastLineAt.{whole, bare}

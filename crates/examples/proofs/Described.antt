@@ -1,10 +1,5 @@
 -- Load judges the sheet that the lines describe.
-use Rattle.std.specs.Prelude.{Err}
-use Prim.Native.Nat.{ℕ, zero, suc, ◌+◌, ◌≤◌}
-use mathlib.Core.Bool.{Bool, true, false, not, ◌&&◌}
-use mathlib.Core.List.{List, [], ◌∷◌}
-use native.Mathlib.Omega.{arith}
-use lib.Dec.{eqb, ltb, leb}
+use Rattle.std.proofs.Common.{Err, ℕ, zero, suc, ◌+◌, ◌≤◌, Bool, true, false, not, ◌&&◌, List, [], ◌∷◌, arith, eqb, ltb, leb}
 use Rattle.counting.specs.Choice.{pick}
 use Rattle.text.specs.Keys.{bars_key, wires_key, wire_key, around_key}
 use Rattle.text.specs.Reading.{Listed, line_at}
@@ -13,7 +8,7 @@ use Rattle.text.specs.Shapes.{with_one, with_two, with_some}
 use Rattle.answers.specs.declared.Refusal.TheVariants.{BadLayout, CountOutOfLimits, BadEdge, BadRotation}
 use Rattle.answers.specs.declared.Refusal.{Refusal}
 use Rattle.answers.specs.Answers.{refusal_number}
-use Rattle.sheet.specs.declared.Sheet.{Sheet}
+use Rattle.clauses.specs.declared.Sheet.{Sheet}
 use Rattle.load.specs.Rings.{is_rotation, link_ring}
 use Rattle.load.specs.Load.{Parsed, empty_sheet, with_edge, with_nexts, ring_lines, edge_lines, with_count, load}
 use Rattle.examples.specs.Described.{rings_from, edges_from, described, Read, DescribedLaw}

@@ -1,7 +1,5 @@
 -- The table of plates: computed once.
-use mathlib.Core.Path.{◌≡◌, refl}
-use mathlib.Core.Bool.{true}
-use mathlib.Core.List.{[]}
+use Rattle.std.proofs.Common.{◌≡◌, refl, true, []}
 use Rattle.counting.specs.Counts.{count}
 use Rattle.counting.specs.Below.{all_below, some_below, lowest_below, list_below, tabulate, join_below}
 use Rattle.orbits.specs.Tables.{traced, is_permutation, permutes_from, trace_from, walk_from, unnumbered_below}

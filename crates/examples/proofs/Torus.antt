@@ -1,5 +1,5 @@
 -- The torus, computed. Assumes nothing.
-use mathlib.Core.Path.{refl}
+use Rattle.std.proofs.Common.{refl}
 use Rattle.counting.specs.Below.{all_below, some_below, tabulate}
 use Rattle.orbits.specs.Tables.{traced, is_permutation, permutes_from, trace_from, walk_from, unnumbered_below}
 use Rattle.digraph.specs.Digraph.{flat}

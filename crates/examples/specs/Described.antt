@@ -5,7 +5,7 @@ use Rattle.text.specs.Reading.{line_at}
 use Rattle.text.specs.Shapes.{with_one, with_two, with_some}
 use Rattle.answers.specs.declared.Refusal.{Refusal}
 use Rattle.answers.specs.Answers.{refusal_number}
-use Rattle.sheet.specs.declared.Sheet.{Sheet}
+use Rattle.clauses.specs.declared.Sheet.{Sheet}
 use Rattle.load.specs.Rings.{link_ring}
 use Rattle.load.specs.Load.{Parsed, empty_sheet, with_edge, with_nexts, judged, load}
 

@@ -1,6 +1,6 @@
 -- The law of the table: what the computed test says of each plate.
 use Rattle.std.specs.Prelude.{ℕ, ◌<◌, ◌≡◌, [], length, get_or}
-use Rattle.sheet.specs.declared.Sheet.{Sheet}
+use Rattle.clauses.specs.declared.Sheet.{Sheet}
 use Rattle.sheet.specs.Fresh.{fresh_sheet}
 use Rattle.sheet.specs.Sound.{Faces}
 use Rattle.program.specs.Program.{plate_output}

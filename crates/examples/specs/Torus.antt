@@ -2,7 +2,7 @@
 -- right, wire 16 + v upwards.
 use Rattle.std.specs.Prelude.{ℕ, ◌+◌, ◌*◌, ◌/◌, ◌%◌, ◌≡◌, ◌++◌, true, false, cond, eqb, ltb, replicate}
 use Rattle.counting.specs.Below.{tabulate}
-use Rattle.sheet.specs.declared.Sheet.{Sheet}
+use Rattle.clauses.specs.declared.Sheet.{Sheet}
 use Rattle.sheet.specs.Check.{sound, in_rings, planar, face_count}
 
 -- the neighbour to the right, above, to the left, below

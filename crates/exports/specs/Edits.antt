@@ -1,7 +1,7 @@
 -- An edit as plain numbers: its kind, and its numbers.
 use Rattle.std.specs.Prelude.{ℕ, List, [], ◌∷◌, cond, eqb, Result}
 use Rattle.answers.specs.declared.Refusal.{Refusal}
-use Rattle.sheet.specs.declared.Sheet.{Sheet}
+use Rattle.clauses.specs.declared.Sheet.{Sheet}
 use Rattle.edit.specs.declared.Edit.{Edit}
 use Rattle.edit.specs.declared.Edit.TheVariants.{In, Run, Out, Off, Refused}
 use Rattle.edit.specs.Calls.{put_in_call, run_call, take_out_edge_call, take_out_vertex_call, apply}

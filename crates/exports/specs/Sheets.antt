@@ -4,7 +4,7 @@ use Rattle.sheet.specs.Darts.{sheet_of}
 use Rattle.std.specs.Result.{result_unwrap_or}
 use Rattle.answers.specs.declared.Refusal.{Refusal}
 use Rattle.answers.specs.Answers.{answer_number}
-use Rattle.sheet.specs.declared.Sheet.{Sheet}
+use Rattle.clauses.specs.declared.Sheet.{Sheet}
 use Rattle.load.specs.declared.Loaded.{Loaded}
 use Rattle.load.specs.Load.{returned}
 use Rattle.edit.specs.Calls.{sheet_after}

@@ -1,4 +1,5 @@
-// The calls of the library under plain C names, for programs and tests in other languages.
+// The calls of the library under plain C names, for programs and tests in other languages. The C interface lends a sheet in five parts at each call, names the
+// edits by numbers, and answers with a number.
 #![tactic(auto)]
 
 ghost use Rattle.std.specs.Prelude.{◌≡◌};
@@ -17,8 +18,10 @@ ghost use Rattle.sheet.specs.Darts.{sheet_of};
 ghost use Rattle.exports.specs.Sheets.{Parts, Changed, Filled};
 
 use answers::Refusal;
+use digraph::Digraph;
 use drawing::Drawing;
 use edit::Edit;
+use orbits::Traced;
 use sheet::Sheet;
 
 // The level of each node of a digraph; false where there is a circle.
@@ -32,9 +35,14 @@ pub extern "C" fn walnut_levels(
 ) -> bool
     ensures { (result ≡ (levels_of nodes edges from.now to.now).acyclic) × (level.new ≡ (levels_of nodes edges from.now to.now).level) }
 {
-    let found = digraph::levels(nodes, edges, from, to);
-    let levels = found.unwrap_or([0u16; 256]);
-    *level = levels;
+    let graph = Digraph {
+        nodes,
+        edges,
+        from,
+        to,
+    };
+    let found = graph.levels();
+    *level = found.unwrap_or([0u16; 256]);
     found.is_some()
 }
 
@@ -43,10 +51,12 @@ pub extern "C" fn walnut_levels(
 pub extern "C" fn walnut_trace(size: usize, step: &[u16; 512], orbit: &mut [u16; 512]) -> usize
     ensures { (result ≡ (traced size step.now).count) × (orbit.new ≡ (traced size step.now).orbit) }
 {
-    let found = orbits::trace(size, step);
-    let numbers = found.orbit;
+    let Traced {
+        count,
+        orbit: numbers,
+    } = orbits::trace(size, step);
     *orbit = numbers;
-    found.count
+    count
 }
 
 // A sheet from its parts.
@@ -59,15 +69,12 @@ fn sheet_of(
 ) -> Sheet
     ensures { result ≡ sheet_of vertices edges tails.now heads.now nexts.now }
 {
-    let t = *tails;
-    let h = *heads;
-    let n = *nexts;
     Sheet {
         vertices,
         edges,
-        tails: t,
-        heads: h,
-        nexts: n,
+        tails: *tails,
+        heads: *heads,
+        nexts: *nexts,
     }
 }
 
@@ -82,6 +89,7 @@ fn put_parts(
 )
     ensures { sheet_of vertices.new edges.new tails.new heads.new nexts.new ≡ sheet }
 {
+    // By way of locals: the proof does not close where a field that is an array is stored straight behind a `&mut`.
     let t = sheet.tails;
     let h = sheet.heads;
     let n = sheet.nexts;
@@ -128,7 +136,8 @@ pub extern "C" fn walnut_load(
     number
 }
 
-// Write sheet.
+// Write sheet. The C interface has an entry for each of the two writers; they are alike up to the writer's name, and one body that takes it as a closure is no
+// plainer.
 #[unsafe(no_mangle)]
 pub extern "C" fn walnut_write_sheet(
     vertices: usize,
@@ -147,7 +156,8 @@ pub extern "C" fn walnut_write_sheet(
     answers::answer_number(&written)
 }
 
-// One of the four edits by its kind: 0 in, 1 run, 2 out, 3 off; any other is refused 1. The numbers past those that it has are not looked at.
+// One of the four edits by its kind: 0 in, 1 run, 2 out, 3 off; any other is refused 1. The numbers past those that it has are not looked at. The C interface
+// names the edits by these numbers. Not by way of an `Edit`, which `apply` matches: that holds numbers of 16 bits, and these are of any size.
 #[tactic(auto, unfolding(crate::specs::Edits::edit_by, edit::specs::Calls::apply, answers::specs::Refusals::answering))]
 fn edit_by(kind: u16, s: Sheet, a: usize, p: usize, b: usize, q: usize) -> Result<Sheet, Refusal>
     ensures { result ≡ edit_by kind a p b q s }
@@ -195,7 +205,7 @@ pub extern "C" fn walnut_replay(calls: &[usize], text: &[u8], answers: &mut [usi
     replay::replay(calls, text, answers)
 }
 
-// Write drawing.
+// Write drawing: see `walnut_write_sheet`.
 #[unsafe(no_mangle)]
 pub extern "C" fn walnut_write_drawing(
     vertices: usize,
@@ -214,7 +224,7 @@ pub extern "C" fn walnut_write_drawing(
     answers::answer_number(&written)
 }
 
-// The kind of an edit: 0 in, 1 run, 2 out, 3 off; 5 of a line that is refused (4 is a load in a list of calls).
+// The kind of an edit, a number in the C interface: 0 in, 1 run, 2 out, 3 off; 5 of a line that is refused (4 is a load in a list of calls).
 fn kind(e: Edit) -> u16
     ensures { result ≡ kind_of e }
 {
@@ -227,15 +237,13 @@ fn kind(e: Edit) -> u16
     }
 }
 
-// The numbers of an edit, with 0 past them.
+// The numbers of an edit, with 0 past them: the C interface lends room for four.
 fn numbers_in(e: Edit) -> [u16; 4]
     ensures { result ≡ numbers_in e }
 {
     match e {
-        Edit::In(k) => [k, 0, 0, 0],
+        Edit::In(x) | Edit::Out(x) | Edit::Off(x) => [x, 0, 0, 0],
         Edit::Run(a, p, b, q) => [a, p, b, q],
-        Edit::Out(k) => [k, 0, 0, 0],
-        Edit::Off(v) => [v, 0, 0, 0],
         Edit::Refused => [0, 0, 0, 0],
     }
 }
@@ -246,11 +254,9 @@ pub extern "C" fn walnut_read_edit(text: &[u8], numbers: &mut [u16; 4], taken: &
     ensures { (result ≡ kind_of (read_edit text.now).edit) × (numbers.new ≡ numbers_in (read_edit text.now).edit) × (taken.new ≡ (read_edit text.now).taken) }
 {
     let read = edit::read_edit(text);
-    let e = read.edit;
-    let found = numbers_in(e);
-    *numbers = found;
+    *numbers = numbers_in(read.edit);
     *taken = read.taken;
-    kind(e)
+    kind(read.edit)
 }
 
 // The program `plate` as a function: the output for an input, at the front of the buffer.

@@ -1,12 +1,6 @@
 -- A number's decimal digits, and the number that is read where they stand. Assumes nothing.
-use Prim.Native.Nat.{ℕ, ◌+◌, ◌*◌, ◌/◌, ◌%◌, ◌≤◌, ◌<◌}
-use mathlib.Core.Path.{◌≡◌, refl, sym, ap, ◌∙◌}
-use mathlib.Core.List.{List}
-use native.Mathlib.Nat.{add-zero}
-use native.Mathlib.Decide.{dec_lt}
-use native.Mathlib.Omega.{arith}
-use lib.ListN.{get_or, length}
-use Rattle.std.proofs.Common.{Some}
+use Rattle.std.proofs.Common.{ℕ, ◌+◌, ◌*◌, ◌/◌, ◌%◌, ◌≤◌, ◌<◌, ◌≡◌, refl, sym, ap, ◌∙◌, List, add-zero, arith, get_or, length, Some}
+use Rattle.std.proofs.Math.Decide.{dec_lt}
 use Rattle.text.specs.Reading.{digit_at, number_at}
 use Rattle.text.specs.Written.{decimal}
 use Rattle.layout.specs.Layout.{Stands}

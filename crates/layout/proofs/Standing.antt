@@ -1,12 +1,7 @@
 -- Bytes that stand at a place of a text. Assumes nothing.
-use Prim.Native.Nat.{ℕ, zero, suc, ◌+◌, ◌≤◌, ◌<◌}
-use mathlib.Core.Path.{◌≡◌, refl, sym, ap, ◌∙◌, subst}
-use mathlib.Core.Logic.{◌⊎◌, inl, inr}
-use mathlib.Core.List.{List, [], ◌∷◌, ◌++◌}
-use native.Mathlib.Nat.{add-zero}
-use native.Mathlib.Omega.{arith}
-use lib.ListN.{get_or, length, take, set, length-append, get_or-append}
-use lib.Seq.{sets, sets-eq, length-sets, length-take-le, get_or-append-add, get_or-set_other}
+use Rattle.std.proofs.Common.{ℕ, zero, suc, ◌+◌, ◌≤◌, ◌<◌, ◌≡◌, refl, sym, ap, ◌∙◌, subst, ◌⊎◌, inl, inr, List, [], ◌∷◌, ◌++◌, add-zero, arith, get_or, length, take, set, length-append, length-take-le, get_or-append-add, get_or-set_other}
+use Rattle.std.proofs.Math.ListN.{get_or-append}
+use Rattle.std.proofs.Math.Seq.{sets, sets-eq, length-sets}
 use Rattle.layout.specs.Layout.{Stands}
 
 pub stands_nil : (s : List ℕ) (at : ℕ) → at ≤ length s → Stands s at []

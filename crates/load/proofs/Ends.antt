@@ -1,7 +1,7 @@
 -- How many edges have an end at each vertex, counted edge by edge. Assumes nothing.
 use Rattle.std.proofs.Common.{◌≡◌, ℕ, ◌+◌, ◌<◌, ◌≤◌, ◌≢◌, List, length, get_or, set, sym, refl, ap, ◌∙◌, add-one, arith, length-set, get_or-set_other, get_or-set_same}
-use mathlib.Core.Logic.{by_cases}
-use native.Mathlib.Decide.{ℕ_discrete}
+use Rattle.std.proofs.Math.Logic.{by_cases}
+use Rattle.std.proofs.Math.Decide.{ℕ_discrete}
 use Rattle.clauses.specs.Darts.{touches_of}
 use Rattle.clauses.proofs.Touching.{touches_tail, touches_head, touches_not}
 use Rattle.counting.specs.Counts.{bit, count}

@@ -1,15 +1,15 @@
 -- A list of edges that are marked one after the other, each of which fits the line of a vertex, is the vertex's rotation where it is as
 -- long as the vertex has edges: each edge stands there at most once, and the sums over all edges are equal. Assumes nothing.
 use Rattle.std.proofs.Common.{◌≡◌, ℕ, zero, suc, ◌+◌, ◌<◌, ◌≤◌, Bool, true, false, not, ◌&&◌, eqb, ltb, ◌≢◌, List, [], ◌∷◌, length, get_or, set, sym, refl, ap, ◌∙◌, subst, arith, length-set, get_or-set_other, get_or-set_same, ltb-true, eq-eqb, ne_eqb, eqb-true}
-use mathlib.Core.Logic.{by_cases}
-use mathlib.Core.Bool.{and-eq-true_iff, and-true, and-false}
-use native.Mathlib.Decide.{ℕ_discrete}
+use Rattle.std.proofs.Math.Logic.{by_cases}
+use Rattle.std.proofs.Math.Bool.{and-eq-true_iff, and-true, and-false}
+use Rattle.std.proofs.Math.Decide.{ℕ_discrete}
 use Rattle.clauses.specs.Darts.{touches_of}
 use Rattle.counting.specs.Counts.{bit, count}
 use Rattle.counting.proofs.Iterate.{total, by_bool}
 use Rattle.counting.proofs.Below.{all_at, all_of}
 use Rattle.load.specs.Rings.{occurrences, all_in, is_rotation}
-use Rattle.sheet.specs.declared.Sheet.{Sheet}
+use Rattle.clauses.specs.declared.Sheet.{Sheet}
 use Rattle.load.specs.Load.{with_nexts}
 use Rattle.load.specs.Inner.{fits_of, fit_from}
 

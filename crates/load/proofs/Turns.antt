@@ -1,18 +1,19 @@
 -- The loops over the lines, turn by turn: what is left to read gives what the whole gives. Assumes nothing.
-use Rattle.std.proofs.Common.{◌≡◌, ℕ, zero, suc, ◌+◌, ◌-◌, ◌<◌, ◌≤◌, Bool, true, false, not, ◌&&◌, eqb, ltb, leb, ◌≢◌, List, [], ◌∷◌, length, get_or, set, replicate, Some, Ok, Err, Result, sym, refl, ◌∙◌, zero-add, arith, get_or-set_other, get_or-set_same, eq-eqb, eqb-true}
-use mathlib.Core.Logic.{by_cases}
-use mathlib.Core.Bool.{false≢true}
-use native.Mathlib.Decide.{ℕ_discrete}
+use Rattle.std.proofs.Common.{◌≡◌, ℕ, suc, ◌+◌, ◌-◌, ◌<◌, ◌≤◌, Bool, true, false, not, ◌&&◌, eqb, ltb, leb, ◌≢◌, List, [], ◌∷◌, length, get_or, set, Some, Ok, Err, Result, sym, refl, ◌∙◌, zero-add, arith, get_or-set_other, get_or-set_same, eq-eqb, eqb-true}
+use Rattle.std.proofs.Math.Logic.{by_cases}
+use Rattle.std.proofs.lemmas.Bool.{false≢true}
+use Rattle.std.proofs.Math.Decide.{ℕ_discrete}
 use Rattle.counting.specs.Choice.{pick}
 use Rattle.counting.specs.Counts.{count}
 use Rattle.counting.proofs.Iterate.{by_bool}
+use Rattle.counting.proofs.Stores.{replicate_at}
 use Rattle.clauses.specs.Darts.{touches_of, dart_of}
 use Rattle.text.specs.Reading.{Listed, line_at, numbers_of}
 use Rattle.text.specs.Reading.Listed.{listed, unlisted}
 use Rattle.text.specs.Shapes.{with_one, with_some, pair_of}
 use Rattle.text.specs.Keys.{bars_key, wires_key, wire_key, around_key}
 use Rattle.text.proofs.Counted.{one_by, one_counted, two_by, two_counted}
-use Rattle.sheet.specs.declared.Sheet.{Sheet}
+use Rattle.clauses.specs.declared.Sheet.{Sheet}
 use Rattle.answers.specs.declared.Refusal.{Refusal}
 use Rattle.answers.specs.declared.Refusal.TheVariants.{BadLayout, CountOutOfLimits, BadEdge, BadRotation}
 use Rattle.load.specs.Rings.{is_rotation, link_from, link_ring}
@@ -61,12 +62,6 @@ apart_more k a b tails heads ht hh n old i l =
     (λ e. rw (get_or-set_other tails k i a 0 e, get_or-set_other heads k i b 0 e) (old i (omega arith)))
 
 -- ---- the ring lines
-
--- no edge bears a mark yet
-pub zeros_at : (n k : ℕ) → get_or {A = ℕ} (replicate n 0) k 0 ≡ 0
-zeros_at zero k = refl
-zeros_at (suc n) zero = refl
-zeros_at (suc n) (suc k) = zeros_at n k
 
 module _ (s : Sheet) (v : ℕ) where
   link_from_law : (f w : ℕ) (ws nexts : List ℕ) → linked_from s.tails v (dart_of s.tails f v) (dart_of s.tails w v) ws nexts ≡ link_from s v f (w ∷ ws) nexts
@@ -139,7 +134,7 @@ module _ (good : ℕ → ℕ → Parsed) where
   count_on most (listed (a ∷ []) next) = by_bool (leb 2 a && leb a most) (λ t. rw t refl) (λ f. rw f refl)
   count_on most (listed (a ∷ b ∷ vs) next) = refl
 
-abbrev edges_of : List ℕ → ℕ → ℕ → ℕ → Parsed
+abbrev pub edges_of : List ℕ → ℕ → ℕ → ℕ → Parsed
 edges_of text n m after = edge_lines m text (empty_sheet n m) 0 after
 
 pub wires_steps : (text : List ℕ) (n next : ℕ) → with_count (line_at wires_key text next) 256 (edges_of text n) ≡ count_by (edges_of text n) (count_of 256 (line_at wires_key text next))
@@ -152,8 +147,12 @@ pub bars_steps : (text : List ℕ) → load text ≡ count_by (wires_of text) (c
 unfolding load
 bars_steps text = count_on (wires_of text) 128 (line_at bars_key text 0)
 
+-- both counts are read: the edge lines are left
+pub after_counts : (text : List ℕ) (n next m after : ℕ) → Ok (n, next) ≡ count_of 128 (line_at bars_key text 0) → Ok (m, after) ≡ count_of 256 (line_at wires_key text next) → edges_of text n m after ≡ load text
+after_counts text n next m after e f = sym (bars_steps text ∙ rw (← e) (wires_steps text n next ∙ rw (← f) refl))
+
 pub ruleset edge_turns = (edges_over, edges_step)
 
-pub ruleset ring_turns = (rings_over, rings_step, zeros_at)
+pub ruleset ring_turns = (rings_over, rings_step, replicate_at)
 
 pub ruleset load_turns = (bars_steps, wires_steps, judged_steps)

@@ -1,11 +1,10 @@
 -- The numbers of an `around=` line, read one after the other, each checked and linked to the one before. Assumes nothing.
 use Rattle.std.proofs.Common.{◌≡◌, ℕ, ◌+◌, ◌<◌, ◌≤◌, Bool, true, false, cond, not, eqb, ltb, List, [], ◌∷◌, length, get_or, drop, set, Some, None, Ok, Err, Option, Result, sym, refl, ap, ◌∙◌, arith, length-set, get_or-set_other, get_or-set_same, ltb-true, eq-eqb, ne_eqb, eqb-true}
-use mathlib.Core.Logic.{by_cases}
-use mathlib.Core.Bool.{and-eq-true_iff, and-false}
-use native.Mathlib.Decide.{ℕ_discrete, dec_lt}
-use lib.Seq.{set_out}
+use Rattle.std.proofs.Math.Logic.{by_cases}
+use Rattle.std.proofs.Math.Bool.{beq, and-eq-true_iff, and-false}
+use Rattle.std.proofs.Math.Decide.{ℕ_discrete, dec_lt}
+use Rattle.std.proofs.Math.Seq.{set_out}
 use Rattle.clauses.specs.Darts.{touches_of, dart_of}
-use Rattle.counting.specs.Counts.{bit}
 use Rattle.counting.proofs.Iterate.{by_bool}
 use Rattle.text.specs.declared.Numbers.{Numbers}
 use Rattle.text.specs.Reading.{Number, Listed, before, number_at, numbers_at, starts_with, line_end_at, closed, line_at, numbers_of}
@@ -14,7 +13,7 @@ use Rattle.text.proofs.Listing.{numbers_none, numbers_last, numbers_more}
 use Rattle.text.proofs.Closing.{keyed, keyless}
 use Rattle.answers.specs.declared.Refusal.{Refusal}
 use Rattle.answers.specs.declared.Refusal.TheVariants.{BadLayout}
-use Rattle.sheet.specs.declared.Sheet.{Sheet}
+use Rattle.clauses.specs.declared.Sheet.{Sheet}
 use Rattle.text.specs.Keys.{around_key}
 use Rattle.load.specs.Inner.{Apart, fits_of, edge_of, marks_of, rest_at, is_listed, refusal_of, fit_from, linked_from, linked, Ringed, unringed, ringed_by, end_of, linked_on, ring_from}
 
@@ -43,9 +42,9 @@ module _ (text : List ℕ) where
   unfolding is_listed closed
   end_shaped vs at = by_bool (eqb (line_end_at text at) 0) (λ b. rw b refl) (λ b. rw b refl)
 
-  abbrev shaped_by : Option Numbers → Bool
+  abbrev shaped_by : Option (Numbers × ℕ) → Bool
   shaped_by None = false
-  shaped_by (Some r) = not (eqb (line_end_at text r.next) 0)
+  shaped_by (Some (r, next)) = not (eqb (line_end_at text next) 0)
 
   listed_shaped : (l : Listed) → is_listed (closed text l) ≡ shaped_by (numbers_of l)
   unfolding is_listed closed numbers_of
@@ -60,9 +59,9 @@ module _ (text : List ℕ) where
 -- ---- one edge of the line
 
 module _ (s : Sheet) (v : ℕ) where
-  -- whether it may stand there, by whether its tail and its head stand there, as numbers
+  -- whether it may stand there, by whether its tail and its head stand there
   pub fits_steps : (seen : List ℕ) (w : ℕ) → Apart s.edges s.tails s.heads
-      → fits_of s v seen w ≡ cond (ltb w s.edges) (cond (eqb (get_or seen w 0) (v + 1)) false (eqb (bit (eqb (get_or s.tails w 0) v) + bit (eqb (get_or s.heads w 0) v)) 1)) false
+      → fits_of s v seen w ≡ cond (ltb w s.edges) (cond (eqb (get_or seen w 0) (v + 1)) false (not (beq (eqb (get_or s.tails w 0) v) (eqb (get_or s.heads w 0) v)))) false
   unfolding fits_of touches_of
   fits_steps seen w apart = by_bool (ltb w s.edges)
       (λ l. by_bool (eqb (get_or seen w 0) (v + 1))
@@ -163,6 +162,16 @@ module _ (s : Sheet) (v : ℕ) where
                 (λ t. rw (numbers_rest text (at + 1) w next e, t) (from_next count first last seen nexts w m t (rest_at text next)))
                 (λ f. rw (numbers_rest text (at + 1) w next e, f) (from_unfit count first last seen nexts w f (rest_at text next)))
 
+        -- a comma and an edge that may stand there
+        pub next_line : (at dart next : ℕ) → (count ≡ 0 → ⊥) → get_or text at 0 ≡ 44 → Ok (dart, next) ≡ edge_of text s v seen (number_at text (at + 1))
+            → ring_from degree s v (count + 1) first dart (marks_of s v seen (number_at text (at + 1))) (set nexts last dart) (closed text (rest_at text next)) ≡ ring_from degree s v count first last seen nexts (closed text (rest_at text at))
+        next_line at dart next m c e = sym (next_steps at m c ∙ rw (← e) refl)
+
+        -- a comma and an edge that may not stand there
+        pub next_refused : (at : ℕ) (r : Refusal) → (count ≡ 0 → ⊥) → get_or text at 0 ≡ 44 → Err r ≡ edge_of text s v seen (number_at text (at + 1))
+            → unringed r ≡ ring_from degree s v count first last seen nexts (closed text (rest_at text at))
+        next_refused at r m c e = sym (next_steps at m c ∙ rw (← e) refl)
+
         -- the line's end
         pub end_steps : (at : ℕ) → (count ≡ 0 → ⊥) → (get_or text at 0 ≡ 44 → ⊥)
             → ring_from degree s v count first last seen nexts (closed text (rest_at text at))
@@ -172,4 +181,4 @@ module _ (s : Sheet) (v : ℕ) where
             let z : count + 0 ≡ count = omega arith in
             rw (rest_last text at n) (by_bool (eqb (line_end_at text at) 0) (λ b. rw b refl) (λ b. by_bool (eqb count degree) (λ e. rw (b, z, e, ne_eqb count 0 m) refl) (λ e. rw (b, z, e) refl)))
 
-pub ruleset ring_steps = (start_steps, first_steps, next_steps, end_steps, marks_kept, marks_length)
+pub ruleset ring_steps = (start_steps, first_steps, end_steps, marks_kept, marks_length)

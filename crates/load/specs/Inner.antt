@@ -6,10 +6,15 @@ use Rattle.counting.specs.Choice.{pick}
 use Rattle.text.specs.Reading.{Number, line_end_at, Listed, numbers_at, closed}
 use Rattle.text.specs.Reading.Listed.{listed, unlisted}
 use Rattle.text.specs.Shapes.{with_one}
-use Rattle.sheet.specs.declared.Sheet.{Sheet}
+use Rattle.clauses.specs.declared.Sheet.{Sheet}
 use Rattle.answers.specs.declared.Refusal.{Refusal}
 use Rattle.answers.specs.declared.Refusal.TheVariants.{BadLayout, CountOutOfLimits, BadRotation}
 use Rattle.load.specs.Load.{Parsed, judged, ring_lines}
+
+-- what was read, with the place that was reached
+abbrev pub reached : {A B : Type 0} → (A → B) → Result A Refusal → Result B Refusal
+reached f (Ok a) = Ok (f a)
+reached f (Err r) = Err r
 
 -- ---- the count lines: one number, from 2 to `most`
 
@@ -30,6 +35,10 @@ Counted k tails heads degrees = (v : ℕ) → v < 128 → get_or degrees v 0 ≡
 -- the counts and the edges of the sheet are read: there is room for them, and no edge has both ends at one vertex
 abbrev pub EdgesRead : Sheet → Type 0
 EdgesRead s = (s.vertices ≤ 128) × (s.edges ≤ 256) × Apart s.edges s.tails s.heads
+
+-- the entries from edge m on are as they were
+abbrev pub AsBefore : ℕ → Sheet → Sheet → Type 0
+AsBefore m old new = (k : ℕ) → m ≤ k → (get_or new.tails k 0 ≡ get_or old.tails k 0) × (get_or new.heads k 0 ≡ get_or old.heads k 0)
 
 -- one more at v
 unfoldable pub one_more : ℕ → List ℕ → List ℕ

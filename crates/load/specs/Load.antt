@@ -3,7 +3,7 @@ use Rattle.std.specs.Prelude.{ℕ, zero, suc, ◌+◌, not, ◌&&◌, List, eqb,
 use Rattle.counting.specs.Choice.{pick}
 use Rattle.text.specs.Reading.{Listed, line_at}
 use Rattle.text.specs.Shapes.{with_one, with_two, with_some}
-use Rattle.sheet.specs.declared.Sheet.{Sheet}
+use Rattle.clauses.specs.declared.Sheet.{Sheet}
 use Rattle.answers.specs.declared.Refusal.{Refusal}
 use Rattle.answers.specs.declared.Refusal.TheVariants.{BadLayout, CountOutOfLimits, BadEdge, BadRotation}
 use Rattle.answers.specs.Refusals.{answering}

@@ -2,7 +2,7 @@
 use Rattle.std.specs.Prelude.{ℕ, ◌+◌, Bool, true, ◌&&◌, List, [], ◌∷◌, eqb, ltb, get_or, set}
 use Rattle.counting.specs.Counts.{bit}
 use Rattle.counting.specs.Below.{all_below}
-use Rattle.sheet.specs.declared.Sheet.{Sheet}
+use Rattle.clauses.specs.declared.Sheet.{Sheet}
 use Rattle.sheet.specs.Darts.{touches, dart_at}
 
 -- how often k stands in the list

@@ -6,6 +6,7 @@ ghost use Rattle.load.specs.Load.{load, returned};
 
 use answers::Refusal;
 use sheet::Sheet;
+use text::Reader;
 
 mod around;
 mod lines;
@@ -22,8 +23,10 @@ pub struct Loaded {
 pub fn load(text: &[u8]) -> Result<Loaded, Refusal>
     ensures { result ≡ load text.now }
 {
-    let (vertices, at) = lines::count_line(text, 0, b"bars=", 128)?;
-    let (edges, at) = lines::count_line(text, at, b"wires=", 256)?;
+    let mut reader = Reader { text, at: 0 };
+    let vertices = lines::count_line(&mut reader, b"bars=", 128)?;
+    let edges = lines::count_line(&mut reader, b"wires=", 256)?;
+    // Written out, as `empty_sheet` of the definition is: with `..` of a default each step below would have to unpack what that is.
     let mut sheet = Sheet {
         vertices,
         edges,
@@ -32,12 +35,16 @@ pub fn load(text: &[u8]) -> Result<Loaded, Refusal>
         nexts: [0u16; 512],
     };
     let mut degrees = [0u16; 128];
-    let at = lines::edge_lines(text, at, &mut sheet, &mut degrees)?;
+    lines::edge_lines(&mut reader, &mut sheet, &mut degrees)?;
+    // The lines of rings are read beside the sheet, which they look at meanwhile.
     let mut nexts = sheet.nexts;
-    let taken = around::ring_lines(text, at, &sheet, &degrees, &mut nexts)?;
+    around::ring_lines(&mut reader, &sheet, &degrees, &mut nexts)?;
     sheet.nexts = nexts;
     sheet::judge(&sheet)?;
-    Ok(Loaded { sheet, taken })
+    Ok(Loaded {
+        sheet,
+        taken: reader.at,
+    })
 }
 
 // What load returns beside its answer: refused, the present sheet comes back, and 0 bytes are taken.
@@ -45,11 +52,8 @@ pub fn load(text: &[u8]) -> Result<Loaded, Refusal>
 pub fn returned(answer: Result<Loaded, Refusal>, present: Sheet) -> Loaded
     ensures { result ≡ returned present answer }
 {
-    match answer {
-        Ok(loaded) => loaded,
-        Err(_) => Loaded {
-            sheet: present,
-            taken: 0,
-        },
-    }
+    answer.unwrap_or(Loaded {
+        sheet: present,
+        taken: 0,
+    })
 }

@@ -2,23 +2,20 @@
 ghost use Rattle.std.specs.Prelude.{◌≡◌, ◌≤◌, ◌<◌, IfOk, get_or};
 ghost use Rattle.text.specs.Reading.{line_at};
 ghost use Rattle.load.specs.Load.{edge_lines};
-ghost use Rattle.load.specs.Inner.{count_of, one_more, EdgesRead, Counted, after_edges};
+ghost use Rattle.load.specs.Inner.{reached, count_of, one_more, EdgesRead, Counted, AsBefore, after_edges};
 
 use answers::Refusal;
 use sheet::Sheet;
+use text::Reader;
 
-// A line with one count, from 2 to `most`: the count, and the place after the line.
+// A line with one count, from 2 to `most`.
 #[tactic(auto, using(crate::proofs::Turns::count_steps))]
-pub fn count_line(
-    text: &[u8],
-    at: usize,
-    key: &[u8],
-    most: usize,
-) -> Result<(usize, usize), Refusal>
-    ensures count { result ≡ count_of most (line_at key.now text.now at) }
-    ensures within { IfOk result (λ r. r.0 ≤ most) }
+pub fn count_line(reader: &mut Reader, key: &[u8], most: usize) -> Result<usize, Refusal>
+    ensures text { reader.new.text.now ≡ reader.old.text.now }
+    ensures count { reached (λ n. (n, reader.new.at)) result ≡ count_of most (line_at key.now reader.old.text.now reader.old.at) }
+    ensures within { IfOk result (λ n. n ≤ most) }
 {
-    let read = text::line(text, at, key).ok_or(Refusal::BadLayout)?;
+    let read = reader.line(key).ok_or(Refusal::BadLayout)?;
     if read.count != 1 {
         return Err(Refusal::BadLayout);
     }
@@ -26,7 +23,7 @@ pub fn count_line(
     if !(2..=most).contains(&n) {
         return Err(Refusal::CountOutOfLimits);
     }
-    Ok((n, read.next))
+    Ok(n)
 }
 
 // One edge more has an end at v.
@@ -38,23 +35,23 @@ fn count_end(v: u16, degrees: &mut [u16; 128])
     degrees[usize::from(v)] += 1;
 }
 
-// The lines `wire=tail,head` of a sheet whose counts are read, and the place after them.
-// The edges at each vertex are counted as they are read.
+// The lines `wire=tail,head` of a sheet whose counts are read. The edges at each vertex are counted as they are read.
 #[tactic(auto, using(crate::proofs::Turns::edge_turns), unfolding(crate::specs::Load::with_edge))]
 pub fn edge_lines(
-    text: &[u8],
-    start: usize,
+    reader: &mut Reader,
     sheet: &mut Sheet,
     degrees: &mut [u16; 128],
-) -> Result<usize, Refusal>
+) -> Result<(), Refusal>
     requires { (sheet.old.vertices ≤ 128) × (sheet.old.edges ≤ 256) × Counted 0 sheet.old.tails sheet.old.heads degrees.old }
-    ensures rest { after_edges text.now sheet.new result ≡ edge_lines sheet.old.edges text.now sheet.old 0 start }
+    ensures text { reader.new.text.now ≡ reader.old.text.now }
+    ensures rest { after_edges reader.old.text.now sheet.new (reached (λ _. reader.new.at) result) ≡ edge_lines sheet.old.edges reader.old.text.now sheet.old 0 reader.old.at }
     ensures counts { (sheet.new.vertices ≡ sheet.old.vertices) × (sheet.new.edges ≡ sheet.old.edges) }
+    ensures kept { (sheet.new.nexts ≡ sheet.old.nexts) × AsBefore sheet.old.edges sheet.old sheet.new }
     ensures read { IfOk result (λ _. EdgesRead sheet.new × Counted sheet.new.edges sheet.new.tails sheet.new.heads degrees.new) }
 {
-    let mut at = start;
+    // By place: it stores into two arrays of the sheet.
     for k in 0..sheet.edges {
-        let (a, b, next) = text::pair_line(text, at, b"wire=").ok_or(Refusal::BadLayout)?;
+        let (a, b) = reader.pair_line(b"wire=").ok_or(Refusal::BadLayout)?;
         if !clauses::joins(sheet.vertices, a, b) {
             return Err(Refusal::BadEdge);
         }
@@ -62,7 +59,6 @@ pub fn edge_lines(
         sheet.heads[k] = b;
         count_end(a, degrees);
         count_end(b, degrees);
-        at = next;
     }
-    Ok(at)
+    Ok(())
 }

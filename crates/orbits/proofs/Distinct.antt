@@ -1,15 +1,15 @@
 -- `is_permutation` says whether the table permutes the elements below `size`. Assumes nothing.
 use Rattle.std.proofs.Common.{ℕ, zero, suc, ◌+◌, ◌≤◌, ◌<◌, ◌≡◌, refl, sym, ap, ◌∙◌, Bool, true, false, not, ◌&&◌, List, arith, below_more, ltb-true, leb-true, lt-ltb, le-leb, leb, ltb, get_or, set, length, length-set, replicate, get_or-set_other}
-use mathlib.Core.Logic.{by_cases}
-use mathlib.Core.Bool.{and-eq-true_iff}
-use native.Mathlib.Decide.{ℕ_discrete, dec_lt}
-use borrow.Author.Tests.{not-true}
-use lib.ListN.{length-replicate}
+use Rattle.std.proofs.Math.Logic.{by_cases}
+use Rattle.std.proofs.Math.Bool.{and-eq-true_iff}
+use Rattle.std.proofs.Math.Decide.{ℕ_discrete, dec_lt}
+use Rattle.std.proofs.lemmas.Bool.{not-true}
+use Rattle.std.proofs.Math.ListN.{length-replicate}
 use Rattle.counting.specs.Orbits.{Perm}
 use Rattle.counting.proofs.Iterate.{by_bool, clash}
 use Rattle.orbits.specs.Tables.{permutes_from, is_permutation}
 use Rattle.orbits.specs.Meaning.{entries, PermutationLaw}
-use Rattle.counting.proofs.Stores.{Stored, stored}
+use Rattle.counting.proofs.Stores.{Stored, stored, replicate_at}
 use Rattle.counting.proofs.Stores.Stored.{here, apart}
 
 -- the first e entries are below `size`, no two are the same, and all are marked
@@ -76,11 +76,6 @@ module _ (size : ℕ) (table : List ℕ) where
     marked = λ i h. absurd (omega arith);
   }
 
-none_marked : (n j : ℕ) → get_or (replicate n false) j false ≡ false
-none_marked zero j = refl
-none_marked (suc n) zero = refl
-none_marked (suc n) (suc j) = none_marked n j
-
 pub permutation_law : PermutationLaw
 unfolding is_permutation
 permutation_law size table = (
@@ -88,5 +83,5 @@ permutation_law size table = (
       let fits = leb-true size 512 small in
       (fits, holds size table fits size (omega arith) (distinct_none size table) all),
   λ k. (and-eq-true_iff (leb size 512) (permutes_from size size table 0 (replicate 512 false))).1
-      (le-leb size 512 k.0, found size table k.1 size 0 (replicate 512 false) (omega arith) (λ j m. clash m (none_marked 512 j))),
+      (le-leb size 512 k.0, found size table k.1 size 0 (replicate 512 false) (omega arith) (λ j m. clash m (replicate_at false 512 j))),
 )

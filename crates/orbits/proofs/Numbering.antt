@@ -1,20 +1,16 @@
 -- Of a permutation `traced` has the orbits. Assumes nothing.
-use Rattle.std.proofs.Common.{ℕ, zero, suc, ◌+◌, ◌-◌, ◌≤◌, ◌<◌, ◌≡◌, refl, sym, ap, ◌∙◌, inl, List, ◌++◌, arith, eq-eqb, ne_eqb, le-leb, eqb, leb, get_or, set, length, length-append, replicate, get_or-append-add}
-use native.Mathlib.Decide.{ℕ_discrete}
-use borrow.Author.Tests.{lt-leb}
-use lib.ListN.{get_or-replicate, length-replicate, get_or-append}
+use Rattle.std.proofs.Common.{ℕ, zero, suc, ◌+◌, ◌-◌, ◌≤◌, ◌<◌, ◌≡◌, sym, ap, ◌∙◌, inl, List, ◌++◌, arith, eq-eqb, ne_eqb, le-leb, eqb, leb, get_or, set, length, length-append, replicate, get_or-append-add}
+use Rattle.std.proofs.Math.Decide.{ℕ_discrete}
+use Rattle.std.proofs.lemmas.Bool.{lt-leb}
+use Rattle.std.proofs.Math.ListN.{get_or-replicate, length-replicate, get_or-append}
 use Rattle.counting.specs.Orbits.{Perm, iter, Orbits}
 use Rattle.counting.proofs.Iterate.{by_bool}
 use Rattle.counting.proofs.Reach.{iter_below, returns}
 use Rattle.counting.proofs.Orbits.{kept_reach}
+use Rattle.counting.proofs.Stores.{replicate_at}
 use Rattle.orbits.specs.Tables.{unnumbered_below, walk_from, trace_from, traced}
 use Rattle.orbits.specs.Meaning.{entries, Numbering, TracedLaw, CountLaw}
 use Rattle.orbits.proofs.Walks.{Part, Walk, set_out, walk_on, come_round, pass}
-
-zeros : (n j : ℕ) → get_or {A = ℕ} (replicate n 0) j 0 ≡ 0
-zeros zero j = refl
-zeros (suc n) zero = refl
-zeros (suc n) (suc j) = zeros n j
 
 module _ (size : ℕ) (step : List ℕ) (P : Perm size (entries step)) (fits : size ≤ 512) where
   none : Part size (entries step) (unnumbered_below size) 0 0
@@ -23,7 +19,7 @@ module _ (size : ℕ) (step : List ℕ) (P : Perm size (entries step)) (fits : s
     full = length-append (replicate size 512) (replicate (512 - size) 0) ∙ omega (arith, length-replicate {A = ℕ} size 512, length-replicate {A = ℕ} (512 - size) 0);
     past = λ d l.
         let z : d ≡ length {A = ℕ} (replicate size 512) + (d - size) = omega (arith, length-replicate {A = ℕ} size 512) in
-        ap (entries (replicate size 512 ++ replicate (512 - size) 0)) z ∙ get_or-append-add (replicate size 512) (replicate (512 - size) 0) (d - size) 0 ∙ zeros (512 - size) (d - size);
+        ap (entries (replicate size 512 ++ replicate (512 - size) 0)) z ∙ get_or-append-add (replicate size 512) (replicate (512 - size) 0) (d - size) 0 ∙ replicate_at 0 (512 - size) (d - size);
     few = omega arith;
     kind = λ d l. inl (bare d l);
     done = λ d l. absurd (omega arith);

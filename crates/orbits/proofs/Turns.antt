@@ -1,8 +1,8 @@
 -- A turn of each loop: what is left to do, and the loops' beginnings and ends. Assumes nothing.
 use Rattle.std.proofs.Common.{ℕ, suc, ◌+◌, ◌-◌, ◌≤◌, ◌<◌, ◌≡◌, List, ◌++◌, arith, eq-eqb, ne_eqb, get_or, set, replicate, drop, refl, take, length, length-take-le, ◌≢◌, le-leb}
-use lib.ListN.{length-replicate}
-use borrow.Author.Tests.{lt-leb}
-use mathlib.Core.Bool.{or-true}
+use Rattle.std.proofs.Math.ListN.{length-replicate}
+use Rattle.std.proofs.lemmas.Bool.{lt-leb}
+use Rattle.std.proofs.Math.Bool.{or-true}
 use Rattle.std.proofs.lemmas.List.{drop-replicate}
 use Rattle.orbits.specs.Tables.{unnumbered_below, walk_from, trace_from, traced}
 

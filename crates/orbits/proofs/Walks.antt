@@ -1,7 +1,7 @@
 -- The walk round one orbit, and the orbits so far. Assumes nothing.
 use Rattle.std.proofs.Common.{ℕ, suc, ◌+◌, ◌≤◌, ◌<◌, ◌≡◌, refl, sym, ap, ◌∙◌, ◌⊎◌, inl, inr, ⊎_elim, List, arith, below_more, get_or, set, length, length-set}
-use mathlib.Core.Logic.{by_cases}
-use native.Mathlib.Decide.{ℕ_discrete}
+use Rattle.std.proofs.Math.Logic.{by_cases}
+use Rattle.std.proofs.Math.Decide.{ℕ_discrete}
 use Rattle.counting.specs.Orbits.{Perm, iter, Reach}
 use Rattle.counting.proofs.Iterate.{around}
 use Rattle.counting.proofs.Reach.{iter_below, reach_below, reach_refl, reach_trans, reach_sym}

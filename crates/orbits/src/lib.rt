@@ -4,7 +4,7 @@
 ghost use Rattle.std.specs.Prelude.{◌≡◌, ◌<◌, ◌≤◌};
 ghost use Rattle.orbits.specs.Tables.{unnumbered_below, traced};
 
-// The number of each element's orbit, and how many orbits there are.
+// The number of each element's orbit, and how many orbits there are. An array: fixed memory, no heap, and the specification names it.
 #[derive(Clone, Copy)]
 pub struct Traced {
     pub count: usize,
@@ -32,6 +32,7 @@ pub fn trace(size: usize, step: &[u16; 512]) -> Traced
     ensures { result ≡ traced size step.now }
 {
     if 512 < size {
+        // No `Option`: the C interface hands out what is found for any size, by a call that cannot fail.
         return Traced {
             count: 0,
             orbit: [0; 512],
@@ -40,7 +41,8 @@ pub fn trace(size: usize, step: &[u16; 512]) -> Traced
     let mut orbit = unnumbered(size);
     let mut e = 0;
     let mut f: usize = 0;
-    // No `for`: the count is yielded by `break`, the form that the specification names.
+    // No `for`: the specification asks for this form by name, an outer loop over the ends that yields the count by `break`, and an inner walk that is
+    // left when the end that it started from returns.
     let count = loop {
         if size <= e {
             break f;
@@ -48,6 +50,7 @@ pub fn trace(size: usize, step: &[u16; 512]) -> Traced
         if orbit[e] == NONE {
             let mut at = e;
             for _step in 0..size {
+                // `as`: the contract shows that the number fits; there is no `From` for it, and `TryFrom` would have a failing branch.
                 orbit[at] = f as u16;
                 at = usize::from(step[at]);
                 if at == e || size <= at {

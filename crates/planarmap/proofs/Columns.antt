@@ -1,9 +1,6 @@
 -- Columns exist, rise across every edge but the root, and are fewer than the faces.
-use mathlib.Core.Path.{◌≡◌, refl, ap}
-use mathlib.Core.Logic.{◌≢◌}
-use Prim.Native.Nat.{ℕ, suc, ◌-◌, ◌≤◌, ◌<◌}
-use native.Mathlib.Decide.{ℕ_discrete, dec_lt}
-use native.Mathlib.Omega.{arith}
+use Rattle.std.proofs.Common.{◌≡◌, refl, ap, ◌≢◌, ℕ, suc, ◌-◌, ◌≤◌, ◌<◌, arith}
+use Rattle.std.proofs.Math.Decide.{ℕ_discrete, dec_lt}
 use Rattle.counting.specs.Paths.{Circle, Longest}
 use Rattle.counting.specs.Paths.Path.{more}
 use Rattle.counting.proofs.Iterate.{by_bool, clash}

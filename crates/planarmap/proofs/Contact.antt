@@ -1,14 +1,7 @@
 -- Nothing touches but an edge its own vertices: by the chain lemma, for the faces up to a column.
-use mathlib.Core.Path.{◌≡◌, refl, sym, ◌∙◌, ap}
-use mathlib.Core.Bool.{Bool, true, false, not}
-use mathlib.Core.Logic.{◌≢◌, ◌⊎◌, inl, inr}
-use Prim.Native.Nat.{ℕ, ◌≤◌, ◌<◌}
-use native.Mathlib.Decide.{ℕ_discrete, dec_le}
-use native.Mathlib.Omega.{arith}
-use lib.Dec.{leb, le→leb}
-use borrow.Author.Tests.{leb-true}
-use Rattle.counting.proofs.Counts.{from_t}
-use Rattle.counting.proofs.Iterate.{by_bool}
+use Rattle.std.proofs.Common.{◌≡◌, refl, sym, ◌∙◌, ap, Bool, true, false, not, ◌≢◌, ◌⊎◌, inl, inr, ℕ, ◌≤◌, ◌<◌, arith, leb, leb-true, le-leb}
+use Rattle.std.proofs.Math.Decide.{ℕ_discrete, dec_le}
+use Rattle.std.proofs.lemmas.Bool.{lt-leb}
 use Rattle.planarmap.specs.Map.{Map, Bipolar, Plane}
 use Rattle.planarmap.specs.Order.{Edge}
 use Rattle.planarmap.specs.Columns.{ColumnLaws}
@@ -21,12 +14,6 @@ use Rattle.planarmap.proofs.Chain.{at_source, at_sink, chain}
 -- whether the face f is in column c or left of it
 abbrev pub up_to : (ℕ → ℕ) → ℕ → ℕ → Bool
 up_to column c f = leb (column f) c
-
-pub le_is : (a c : ℕ) → a ≤ c → leb a c ≡ true
-le_is a c h = from_t (le→leb a c h)
-
-pub gt_is : (a c : ℕ) → c < a → leb a c ≡ false
-gt_is a c h = by_bool (leb a c) (λ t. absurd (omega (arith, leb-true a c t))) (λ u. u)
 
 -- the columns of the left and of the right face of the edge of d, a tail or a head
 abbrev pub left_at : Map → (ℕ → ℕ) → Bool → ℕ → ℕ
@@ -47,14 +34,14 @@ module _ {M : Map} (P : Plane M) {column : ℕ → ℕ} (L : ColumnLaws M column
   -- the faces up to a column are a closed set
   pub closed : (c : ℕ) → Closed M (up_to column c)
   closed c = record {
-    start = le_is (at (M.opposite M.root)) c (omega (arith, L.first));
-    close = λ e E n p. le_is (at e) c (omega (arith, L.rises e E n, leb-true (at (M.opposite e)) c p));
+    start = le-leb (at (M.opposite M.root)) c (omega (arith, L.first));
+    close = λ e E n p. le-leb (at e) c (omega (arith, L.rises e E n, leb-true (at (M.opposite e)) c p));
   }
 
   -- and its front edges are those that cross the column
   pub front_at : (b : Bool) {c d : ℕ} → d < M.darts → M.out d ≡ b → left_at M column b d ≤ c → c < right_at M column b d → Front M (up_to column c) b d
-  front_at true {c} {d} h o l r = record { below = h; kind = o; this = le_is (at d) c l; far = gt_is (at (M.opposite d)) c r }
-  front_at false {c} {d} h o l r = record { below = h; kind = o; this = gt_is (at d) c r; far = le_is (at (M.opposite d)) c l }
+  front_at true {c} {d} h o l r = record { below = h; kind = o; this = le-leb (at d) c l; far = lt-leb (at (M.opposite d)) c r }
+  front_at false {c} {d} h o l r = record { below = h; kind = o; this = lt-leb (at d) c r; far = le-leb (at (M.opposite d)) c l }
 
   pub chain_lemma : Chain M column
   chain_lemma c d e D E = chain P (closed c) (front D) (front E)
@@ -111,8 +98,8 @@ module _ {M : Map} (P : Plane M) {column : ℕ → ℕ} (L : ColumnLaws M column
         let (l, A, al) = (has_corners B).left h n0 n1 in
         let (k, Z, ak) = (has_corners B).right h n0 n1 in
         let (y, same, begins) = crossing B (closed c) true (at_next B l (A.below, al)) (at_next B k (Z.below, ak))
-        (le_is (at (M.next l)) c (omega (arith, X.from_left A, ap first al)))
-        (gt_is (at (M.next k)) c (omega (arith, X.to_right Z, ap last ak))) in
+        (le-leb (at (M.next l)) c (omega (arith, X.from_left A, ap first al)))
+        (lt-leb (at (M.next k)) c (omega (arith, X.to_right Z, ap last ak))) in
         (y, same, elim begins [ inl F ↦ F | inr (is_root, _) ↦ absurd (n1 (sym same ∙ ap M.vertex is_root ∙ B.root_head)) ])
 
     -- and ends left of the root

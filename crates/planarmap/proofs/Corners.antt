@@ -1,9 +1,6 @@
 -- Corners: found by walking round a vertex or a face, counted, and so unique where Euler's formula holds.
-use mathlib.Core.Path.{◌≡◌, refl, ◌∙◌}
-use mathlib.Core.Logic.{◌≢◌, inl, inr}
-use mathlib.Core.Bool.{Bool, true, false, not, ◌&&◌, beq, not-not}
-use Prim.Native.Nat.{ℕ, ◌+◌, ◌≤◌, ◌<◌}
-use native.Mathlib.Omega.{arith}
+use Rattle.std.proofs.Common.{◌≡◌, refl, ◌∙◌, ◌≢◌, inl, inr, Bool, true, false, not, ◌&&◌, ℕ, ◌+◌, ◌≤◌, ◌<◌, arith}
+use Rattle.std.proofs.Math.Bool.{beq, not-not}
 use Rattle.counting.specs.Counts.{bit, count}
 use Rattle.counting.proofs.Counts.{count_four, count_all, count_all_but, all, all_but, all_but_fails, Onto, onto_count, onto_injective}
 use Rattle.counting.proofs.Iterate.{Turn, either}

@@ -1,8 +1,6 @@
 -- Only the root has the root's right face on its right, or the root's left face on its left; every other face is beside another edge.
-use mathlib.Core.Path.{◌≡◌, refl, sym, ◌∙◌, ap}
-use mathlib.Core.Bool.{Bool, true, false, not, not-not}
-use mathlib.Core.Logic.{inl, inr}
-use Prim.Native.Nat.{ℕ, ◌<◌}
+use Rattle.std.proofs.Common.{◌≡◌, refl, sym, ◌∙◌, ap, Bool, true, false, not, inl, inr, ℕ, ◌<◌}
+use Rattle.std.proofs.Math.Bool.{not-not}
 use Rattle.counting.proofs.Iterate.{either}
 use Rattle.planarmap.specs.Map.{Map, Bipolar, Plane}
 use Rattle.planarmap.specs.Corners.{Corner, corner_face}

@@ -1,14 +1,10 @@
 -- The hypotheses can be met: vertices 0, 2, 1 one above the other, edges 0 to 1 (the root), 0 to 2 and 2 to 1.
-use mathlib.Core.Path.{◌≡◌, refl, sym, ◌∙◌, ap}
-use mathlib.Core.Bool.{Bool, true, false, not, ◌&&◌, ◌||◌, beq, and-eq-true_iff}
-use mathlib.Core.Logic.{◌≢◌}
-use Prim.Native.Nat.{ℕ, zero, suc, ◌<◌}
-use native.Mathlib.Decide.{ℕ_discrete}
-use native.Mathlib.Omega.{arith}
-use lib.Dec.{eqb, ltb, eqb→eq, eqb_refl, ltb→lt, leb, leb→le}
+use Rattle.std.proofs.Common.{◌≡◌, refl, sym, ◌∙◌, ap, Bool, true, false, not, ◌&&◌, ◌||◌, ◌≢◌, ℕ, zero, suc, ◌<◌, arith, eqb, ltb, leb, eqb-true, ltb-true, leb-true, eq-eqb}
+use Rattle.std.proofs.Math.Bool.{beq, and-eq-true_iff}
+use Rattle.std.proofs.Math.Decide.{ℕ_discrete}
+use Rattle.std.proofs.lemmas.Bool.{not-true}
 use Rattle.counting.specs.Orbits.{iter, Reach}
-use Rattle.counting.proofs.Counts.{from_t, to_t}
-use Rattle.counting.proofs.Iterate.{by_bool, not-true}
+use Rattle.counting.proofs.Iterate.{by_bool}
 use Rattle.planarmap.specs.Map.{Map, Bipolar, Plane, walk}
 use Rattle.planarmap.specs.Corners.{corner_face}
 use Rattle.planarmap.specs.Columns.{ColumnLaws}
@@ -56,10 +52,10 @@ every_at p (suc n) e {d} h =
     elim (ℕ_discrete d n) [ yes q ↦ ap p q ∙ last | no q ↦ every_at p n rest (omega arith) ]
 
 less : (f : ℕ → ℕ) (k n : ℕ) → every (λ d. ltb (f d) k) n ≡ true → {d : ℕ} → d < n → f d < k
-less f k n e {d} h = ltb→lt (f d) k (to_t (every_at (λ d. ltb (f d) k) n e h))
+less f k n e {d} h = ltb-true (f d) k (every_at (λ d. ltb (f d) k) n e h)
 
 same : (f g : ℕ → ℕ) (n : ℕ) → every (λ d. eqb (f d) (g d)) n ≡ true → {d : ℕ} → d < n → f d ≡ g d
-same f g n e {d} h = eqb→eq (f d) (g d) (to_t (every_at (λ d. eqb (f d) (g d)) n e h))
+same f g n e {d} h = eqb-true (f d) (g d) (every_at (λ d. eqb (f d) (g d)) n e h)
 
 given : (t p : ℕ → Bool) (n : ℕ) → every (λ d. not (t d) || p d) n ≡ true → {d : ℕ} → d < n → t d ≡ true → p d ≡ true
 given t p n e {d} h q = rw q at (every_at (λ d. not (t d) || p d) n e h)
@@ -70,10 +66,10 @@ reaches φ zero d e = eqb d e
 reaches φ (suc k) d e = eqb (iter φ (suc k) d) e || reaches φ k d e
 
 reach_of : (φ : ℕ → ℕ) (k d e : ℕ) → reaches φ k d e ≡ true → Reach φ d e
-reach_of φ zero d e q = (0, eqb→eq d e (to_t q))
+reach_of φ zero d e q = (0, eqb-true d e q)
 reach_of φ (suc k) d e q =
     by_bool (eqb (iter φ (suc k) d) e)
-    (λ t. (suc k, eqb→eq (iter φ (suc k) d) e (to_t t)))
+    (λ t. (suc k, eqb-true (iter φ (suc k) d) e t))
     (λ f. reach_of φ k d e (rw f at q))
 
 -- darts below n of one label reach each other in at most k steps
@@ -81,7 +77,7 @@ joined : (φ label : ℕ → ℕ) (k n : ℕ) → every (λ d. every (λ e. not 
     → {d e : ℕ} → d < n → e < n → label d ≡ label e → Reach φ d e
 joined φ label k n q {d} {e} h l p =
     reach_of φ k d e (given (λ e. eqb (label d) (label e)) (reaches φ k d) n (every_at (λ d. every (λ e. not (eqb (label d) (label e)) || reaches φ k d e) n) n q h) l
-    (rw p (from_t (eqb_refl (label e)))))
+    (rw p (eq-eqb (label e) (label e) refl)))
 
 -- ---- the map is plane
 
@@ -111,7 +107,7 @@ bipolar = record {
     joins = λ d e. joined (walk stack) stack.face 2 6 refl;
     used = λ c h. elim (ℕ_discrete c 0) [ yes z ↦ (1, omega arith, sym z) | no n ↦ (0, omega arith, omega arith) ];
   };
-  rises = λ {d} h o. ltb→lt _ _ (to_t (given stack.out (λ d. ltb (stack.row (stack.vertex d)) (stack.row (stack.vertex (stack.opposite d)))) 6 refl h o));
+  rises = λ {d} h o. ltb-true _ _ (given stack.out (λ d. ltb (stack.row (stack.vertex d)) (stack.row (stack.vertex (stack.opposite d)))) 6 refl h o);
   root_below = omega arith;
   root_out = refl;
   root_tail = refl;
@@ -129,8 +125,8 @@ stack_plane = record { bipolar = bipolar; euler = refl }
 
 pub stack_columns : ColumnLaws stack (λ c. c)
 stack_columns = record {
-  rises = λ e E n. ltb→lt _ _ (to_t (given (λ e. stack.out e && not (eqb e 0)) (λ e. ltb (stack.face e) (stack.face (stack.opposite e))) 6 refl E.below
-      (rw E.is_out (by_bool (eqb e 0) (λ t. absurd (n (eqb→eq e 0 (to_t t)))) (λ f. ap not f)))));
+  rises = λ e E n. ltb-true _ _ (given (λ e. stack.out e && not (eqb e 0)) (λ e. ltb (stack.face e) (stack.face (stack.opposite e))) 6 refl E.below
+      (rw E.is_out (by_bool (eqb e 0) (λ t. absurd (n (eqb-true e 0 t))) (λ f. ap not f))));
   first = refl;
   last = λ h. omega arith;
   fewer = λ h. h;
@@ -147,7 +143,7 @@ unfolding edge_column
 stack_greatest {v} h = record {
   found = (v, omega arith, same stack.vertex (λ v. v) 2 refl h, same last_column (λ v. edge_column stack (λ c. c) v) 2 refl h);
   greatest = λ d k p.
-      let l = leb→le (edge_column stack (λ c. c) d) (last_column (stack.vertex d)) (to_t (every_at (λ d. leb (edge_column stack (λ c. c) d) (last_column (stack.vertex d))) 6 refl k)) in
+      let l = leb-true (edge_column stack (λ c. c) d) (last_column (stack.vertex d)) (every_at (λ d. leb (edge_column stack (λ c. c) d) (last_column (stack.vertex d))) 6 refl k) in
       omega (arith, ap last_column p);
 }
 
@@ -163,8 +159,8 @@ stack_long = record {
     );
     least = λ d k p. omega arith;
   };
-  ends = λ {k} R. eqb→eq _ _ (to_t (given (λ d. stack.out d && not (stack.out (stack.next d))) (λ d. eqb (suc (last_column (stack.vertex d))) (corner_face stack d)) 6 refl R.below
-      (rw (R.first, R.second) refl)));
+  ends = λ {k} R. eqb-true _ _ (given (λ d. stack.out d && not (stack.out (stack.next d))) (λ d. eqb (suc (last_column (stack.vertex d))) (corner_face stack d)) 6 refl R.below
+      (rw (R.first, R.second) refl));
   source = stack_greatest (omega arith);
   sink = stack_greatest (omega arith);
 }

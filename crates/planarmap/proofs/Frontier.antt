@@ -1,10 +1,8 @@
 -- A set S of faces that is closed to the left, and its front: the edges with their left face in S and their right face outside.
-use mathlib.Core.Path.{◌≡◌, refl, sym, ◌∙◌, ap}
-use mathlib.Core.Bool.{Bool, true, false, not, ◌&&◌, beq, not-not, and-eq-true_iff}
-use mathlib.Core.Logic.{◌≢◌, ◌⊎◌, inl, inr}
-use Prim.Native.Nat.{ℕ, zero, suc, ◌≤◌, ◌<◌}
-use native.Mathlib.Decide.{ℕ_discrete, dec_le}
-use native.Mathlib.Omega.{arith}
+use Rattle.std.proofs.Common.{◌≡◌, refl, sym, ◌∙◌, ap, Bool, true, false, not, ◌&&◌, ◌≢◌, ◌⊎◌, inl, inr, ℕ, zero, suc, ◌≤◌, ◌<◌, arith}
+use Rattle.std.proofs.Math.Bool.{beq, not-not, and-eq-true_iff}
+use Rattle.std.proofs.Math.Decide.{ℕ_discrete, dec_le}
+use Rattle.std.proofs.lemmas.Bool.{and_right}
 use Rattle.counting.specs.Orbits.{iter}
 use Rattle.counting.proofs.Iterate.{by_bool, clash, either, iter_keeps}
 use Rattle.planarmap.specs.Map.{Map, Bipolar}
@@ -65,10 +63,6 @@ pub record Front (M : Map) (S : ℕ → Bool) (b : Bool) (x : ℕ) : Type 0 wher
 beq_not : (a : Bool) → beq a (not a) ≡ false
 beq_not true = refl
 beq_not false = refl
-
-and-false : (a : Bool) → (a && false) ≡ false
-and-false true = refl
-and-false false = refl
 
 module _ {M : Map} (B : Bipolar M) {S : ℕ → Bool} (C : Closed M S) where
   -- past a tail, S may end; past a head, it may begin
@@ -140,7 +134,7 @@ module _ {M : Map} (B : Bipolar M) {S : ℕ → Bool} (C : Closed M S) where
 
   fails_face : (b : Bool) (x : ℕ) → S (M.face x) ≡ not b → passes b x ≡ false
   unfolding passes
-  fails_face b x p = rw (p, beq_not b) (and-false (beq b (M.out x)))
+  fails_face b x p = rw (p, beq_not b) (and_right (beq b (M.out x)) false refl)
 
   module _ (K : OneCorner M) where
     -- where darts of the kind b with their face so begin to pass: at the corner or at the root

@@ -1,9 +1,6 @@
 -- What follows at once from the laws of a map.
-use mathlib.Core.Path.{◌≡◌, refl, sym, ap, ◌∙◌}
-use mathlib.Core.Bool.{Bool, true, false, not, beq, not-not}
-use mathlib.Core.Logic.{◌≢◌}
-use Prim.Native.Nat.{ℕ, zero, suc, ◌-◌, ◌≤◌, ◌<◌}
-use native.Mathlib.Omega.{arith}
+use Rattle.std.proofs.Common.{◌≡◌, refl, sym, ap, ◌∙◌, Bool, true, false, not, ◌≢◌, ℕ, zero, suc, ◌-◌, ◌≤◌, ◌<◌, arith}
+use Rattle.std.proofs.Math.Bool.{beq, not-not}
 use Rattle.counting.specs.Orbits.{iter}
 use Rattle.counting.proofs.Iterate.{Turn, turn_between, iter_keeps, total, total_bounds, clash}
 use Rattle.counting.proofs.Reach.{returns}

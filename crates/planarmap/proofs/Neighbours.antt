@@ -1,9 +1,6 @@
 -- To the right of every vertex but 0 and 1 stands an edge: on the far side of the face to its right, which goes up past the vertex's row.
-use mathlib.Core.Path.{◌≡◌, refl, sym, ◌∙◌, ap}
-use mathlib.Core.Bool.{true, false}
-use Prim.Native.Nat.{ℕ, ◌≤◌, ◌<◌}
-use native.Mathlib.Decide.{dec_le}
-use native.Mathlib.Omega.{arith}
+use Rattle.std.proofs.Common.{◌≡◌, refl, sym, ◌∙◌, ap, true, false, ℕ, ◌≤◌, ◌<◌, arith}
+use Rattle.std.proofs.Math.Decide.{dec_le}
 use Rattle.counting.proofs.Iterate.{by_bool}
 use Rattle.planarmap.specs.Map.{Map, Bipolar, Plane, walk}
 use Rattle.planarmap.specs.Corners.{Top, Right, corner_face}

@@ -1,13 +1,11 @@
 -- The faces are ordered from left to right: a closed set of faces that is not full has a face that is ready to join.
-use mathlib.Core.Path.{◌≡◌, sym, ◌∙◌, ap}
-use mathlib.Core.Bool.{Bool, true, false, not, cond}
-use mathlib.Core.Logic.{◌≢◌, inl, inr, by_cases}
-use Prim.Native.Nat.{ℕ, zero, suc, ◌≤◌, ◌<◌}
-use native.Mathlib.Decide.{ℕ_discrete, dec_lt}
-use native.Mathlib.Omega.{arith}
+use Rattle.std.proofs.Common.{◌≡◌, sym, ◌∙◌, ap, Bool, true, false, not, cond, ◌≢◌, inl, inr, ℕ, zero, suc, ◌≤◌, ◌<◌, arith}
+use Rattle.std.proofs.Math.Logic.{by_cases}
+use Rattle.std.proofs.Math.Decide.{ℕ_discrete, dec_lt}
+use Rattle.std.proofs.lemmas.Bool.{not-true, not-false}
 use Rattle.counting.specs.Counts.{count}
 use Rattle.counting.proofs.Counts.{all, without, without_same, without_other, count_without}
-use Rattle.counting.proofs.Iterate.{by_bool, clash, not-true, not-false, iter_keeps}
+use Rattle.counting.proofs.Iterate.{by_bool, clash, iter_keeps}
 use Rattle.counting.proofs.Pigeonhole.{find}
 use Rattle.counting.proofs.Pigeonhole.Found.{at, nowhere}
 use Rattle.planarmap.specs.Map.{Map, Bipolar, Plane}

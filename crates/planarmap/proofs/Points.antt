@@ -1,10 +1,6 @@
 -- No contact at any point of the plane: all ends are whole numbers, so it follows from no contact in whole numbers.
-use mathlib.Core.Path.{◌≡◌, sym, ◌∙◌, ap}
-use mathlib.Core.Logic.{inl, inr}
-use Prim.Native.Nat.{ℕ, ◌*◌, ◌≤◌, ◌<◌}
-use native.Mathlib.Decide.{dec_le}
-use native.Mathlib.Nat.{le_of_mul-le-mul_right, mul-le-mul_right}
-use native.Mathlib.Omega.{arith}
+use Rattle.std.proofs.Common.{◌≡◌, sym, ◌∙◌, ap, inl, inr, ℕ, ◌*◌, ◌≤◌, ◌<◌, le_of_mul-le-mul_right, mul-le-mul_right, arith}
+use Rattle.std.proofs.Math.Decide.{dec_le}
 use Rattle.planarmap.specs.Map.{Map}
 use Rattle.planarmap.specs.Contact.{Under, Apart, OnEdge, Joins, NoContact}
 

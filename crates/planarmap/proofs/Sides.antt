@@ -1,9 +1,6 @@
 -- The face to the right of a vertex: between its rightmost outgoing and its rightmost incoming edge. The edges of vertices 0 and 1 in the first column.
-use mathlib.Core.Path.{◌≡◌, refl, sym, ◌∙◌, ap}
-use mathlib.Core.Bool.{Bool, true, false, cond}
-use Prim.Native.Nat.{ℕ, ◌≤◌, ◌<◌}
-use native.Mathlib.Decide.{dec_le}
-use native.Mathlib.Omega.{arith}
+use Rattle.std.proofs.Common.{◌≡◌, refl, sym, ◌∙◌, ap, Bool, true, false, cond, ℕ, ◌≤◌, ◌<◌, arith}
+use Rattle.std.proofs.Math.Decide.{dec_le}
 use Rattle.counting.proofs.Iterate.{by_bool}
 use Rattle.planarmap.specs.Map.{Map, Bipolar, Plane}
 use Rattle.planarmap.specs.Corners.{Right, corner_face}

@@ -1,11 +1,8 @@
 -- The edges of a vertex stand between the faces to its left and to its right; so vertices that begin at their edges and go on to the face to their
 -- right are within the limits, and reach all their edges.
-use mathlib.Core.Path.{◌≡◌, refl, sym, ap}
-use mathlib.Core.Bool.{Bool, true, false}
-use Prim.Native.Nat.{ℕ, ◌≤◌, ◌<◌}
-use native.Mathlib.Decide.{ℕ_discrete}
-use native.Mathlib.Omega.{arith}
-use borrow.Author.Tests.{leb-true, leb-false}
+use Rattle.std.proofs.Common.{◌≡◌, refl, sym, ap, Bool, true, false, ℕ, ◌≤◌, ◌<◌, arith, leb-true, leb-false, le-leb}
+use Rattle.std.proofs.Math.Decide.{ℕ_discrete}
+use Rattle.std.proofs.lemmas.Bool.{lt-leb}
 use Rattle.counting.proofs.Iterate.{by_bool}
 use Rattle.planarmap.specs.Map.{Map, Bipolar, Plane}
 use Rattle.planarmap.specs.Corners.{Left, Right, corner_face, OneCorner}
@@ -14,7 +11,7 @@ use Rattle.planarmap.specs.Contact.{Extent, edge_column, Least, Long, Reaches}
 use Rattle.planarmap.proofs.Laws.{off_root}
 use Rattle.planarmap.proofs.Corners.{has_corners, one_corner}
 use Rattle.planarmap.proofs.Frontier.{from_corner, to_corner}
-use Rattle.planarmap.proofs.Contact.{left_at, closed, le_is, gt_is, front_at, rises_at}
+use Rattle.planarmap.proofs.Contact.{left_at, closed, front_at, rises_at}
 
 pub column_of_law : (M : Map) (column : ℕ → ℕ) (b : Bool) (d : ℕ) → M.out d ≡ b → edge_column M column d ≡ left_at M column b d
 unfolding edge_column
@@ -35,7 +32,7 @@ module _ {M : Map} (P : Plane M) {column : ℕ → ℕ} (L : ColumnLaws M column
   left_span {l} {d} A h e =
       by_bool (M.out d)
       (λ o. rw (column_of_law M column true d o)
-      (leb-true (at (M.next l)) (at d) (from_corner B (closed P L (at d)) K true A h e o (le_is (at d) (at d) (omega arith)))))
+      (leb-true (at (M.next l)) (at d) (from_corner B (closed P L (at d)) K true A h e o (le-leb (at d) (at d) (omega arith)))))
       (λ i.
       let c = at (M.opposite d) in
       rw (column_of_law M column false d i)
@@ -51,7 +48,7 @@ module _ {M : Map} (P : Plane M) {column : ℕ → ℕ} (L : ColumnLaws M column
       (λ i.
       let c = at (M.opposite d) in
       rw (column_of_law M column false d i)
-      (leb-false (at (M.next k)) c (from_corner B (closed P L c) K false A h e i (gt_is (at d) c (rises_at P L false h i (off_root B A e false))))))
+      (leb-false (at (M.next k)) c (from_corner B (closed P L c) K false A h e i (lt-leb (at d) c (rises_at P L false h i (off_root B A e false))))))
 
   -- ---- how a vertex is drawn
 

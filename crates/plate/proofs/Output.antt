@@ -1,24 +1,29 @@
 -- The output in the program's buffer, and that of an input of which no more was read than is looked at. Assumes nothing.
-use Rattle.std.proofs.Common.{arith, ℕ, ◌+◌, ◌≤◌, ◌<◌, ◌≡◌, sym, ap, ◌∙◌, List, [], ◌++◌, length, take, Option, None, Some, IfSome, append-nil}
-use lib.ListN.{length-append}
-use lib.Seq.{take-append-le, take_all}
-use borrow.Author.Tests.{le-ltb, ltb-true, ltb-false}
-use lib.Dec.{ltb}
+use Rattle.std.proofs.Common.{arith, ℕ, ◌+◌, ◌≤◌, ◌<◌, ◌≡◌, sym, ap, ◌∙◌, List, [], ◌++◌, Result, Ok, refl, length, take, Option, None, Some, IfSome, append-nil, length-append, take_all, le-ltb, ltb-true, ltb-false, ltb}
+use Rattle.std.proofs.Math.Seq.{take-append-le}
 use Rattle.std.specs.Io.KnownBytes.{Appends, Consumes, IsAtEnd}
 use Rattle.counting.proofs.Iterate.{by_bool}
-use Rattle.std.specs.Result.{result_unwrap_or}
+use Rattle.answers.specs.declared.Refusal.{Refusal}
 use Rattle.answers.specs.Refusals.{first, answering}
 use Rattle.writesheet.specs.Write.{buffer_after}
 use Rattle.program.specs.Program.{plate_output, longest_output, plate_answer, write_output, buffer_after_output}
 use Rattle.program.proofs.Cases.{too_long}
 use Rattle.plate.specs.Streams.{AppendsFront}
 
--- In a buffer that is long enough the output is what stands in front.
-pub output_in_front : (input buffer : List ℕ) → longest_output ≤ length buffer → take (result_unwrap_or (write_output input buffer) 0) (buffer_after_output input buffer) ≡ plate_output input
-unfolding plate_answer buffer_after first answering
-output_in_front input buffer h =
-    rw (le-ltb (length buffer) longest_output h)
-    (take-append-le _ (plate_output input) _ (omega arith) ∙ take_all _ (plate_output input) (omega arith))
+-- In a buffer that is long enough all of the output is written, and it is what stands in front.
+module _ (input buffer : List ℕ) (h : longest_output ≤ length buffer) where
+  pub output_fits : (r : Result ℕ Refusal) → r ≡ write_output input buffer → r ≡ Ok (length (plate_output input))
+  unfolding plate_answer first answering
+  output_fits r e = e ∙ rw (le-ltb (length buffer) longest_output h) refl
+
+  pub output_count : (r : Result ℕ Refusal) → r ≡ write_output input buffer → (count : ℕ) → r ≡ Ok count → count ≡ length (plate_output input)
+  output_count r e count q = let z = output_fits r e in cc
+
+  pub output_in_front : (count : ℕ) → count ≡ length (plate_output input) → take count (buffer_after_output input buffer) ≡ plate_output input
+  unfolding plate_answer buffer_after first answering
+  output_in_front count e =
+      rw (e, le-ltb (length buffer) longest_output h)
+      (take-append-le _ (plate_output input) _ (omega arith) ∙ take_all _ (plate_output input) (omega arith))
 
 -- of an input that fills the buffer only so many bytes matter, and every other input was read to its end
 pub same_output : (known rest : Option (List ℕ)) (input : List ℕ) → Consumes known rest input → (length input < 16385 → IsAtEnd rest)

@@ -7,6 +7,7 @@ ghost use Rattle.std.specs.Io.KnownBytes.{Appends, Consumes, IsAtEnd};
 ghost use Rattle.program.specs.Program.{plate_output};
 ghost use Rattle.plate.specs.Streams.{AppendsFront};
 
+use program::LONGEST_OUTPUT;
 use std::io::{self, Read, Write};
 
 // A buffer of N bytes.
@@ -22,6 +23,7 @@ fn read_input<R: Read>(reader: &mut R, input: &mut [u8]) -> io::Result<usize>
     ensures bytes { IfOk result (λ count. Consumes (R.remaining reader.old) (R.remaining reader.new) (take count input.new)) }
     ensures all { IfOk result (λ count. count < length input.new → IsAtEnd (R.remaining reader.new)) }
 {
+    // Not `read_to_end`: there is no heap.
     let mut at = 0;
     while at < input.len() {
         match reader.read(&mut input[at..])? {
@@ -37,6 +39,7 @@ fn write_bytes<W: Write>(writer: &mut W, bytes: &[u8]) -> usize
     ensures in_bounds { IsPrefixLen result bytes.now }
     ensures written { Appends (W.contents writer.old) (W.contents writer.new) (take result bytes.now) }
 {
+    // Not `write_all`: it says nothing of how much was written where it fails.
     let mut done = 0;
     while done < bytes.len() {
         match writer.write(&bytes[done..]) {
@@ -53,9 +56,8 @@ fn answer<W: Write>(writer: &mut W, input: &[u8]) -> bool
     ensures front { AppendsFront (W.contents writer.old) (W.contents writer.new) (plate_output input.now) }
     ensures whole { result ≡ true → Appends (W.contents writer.old) (W.contents writer.new) (plate_output input.now) }
 {
-    // As long as the longest output.
-    let mut output = buffer::<187031>();
-    let count = program::plate(input, &mut output).unwrap_or(0);
+    let mut output = buffer::<LONGEST_OUTPUT>();
+    let count = program::plate(input, &mut output).unwrap();
     write_bytes(writer, &output[..count]) == count
 }
 

@@ -1,22 +1,20 @@
 -- Two edges of a map change their numbers. Assumes nothing.
-use Prim.Native.Nat.{ℕ, suc, ◌+◌, ◌*◌, ◌/◌, ◌<◌}
-use mathlib.Core.Path.{◌≡◌, sym, ◌∙◌, ap}
-use mathlib.Core.Logic.{◌≢◌, by_cases}
-use mathlib.Core.Bool.{Bool, true, false, not}
-use native.Mathlib.Decide.{ℕ_discrete}
-use native.Mathlib.Omega.{arith}
+use Rattle.std.proofs.Common.{ℕ, suc, ◌+◌, ◌*◌, ◌/◌, ◌<◌, ◌≡◌, sym, ◌∙◌, ap, ◌≢◌, Bool, true, false, not, arith}
+use Rattle.std.proofs.Math.Logic.{by_cases}
+use Rattle.std.proofs.Math.Decide.{ℕ_discrete}
 use Rattle.counting.specs.Orbits.{Bijection}
 use Rattle.planarmap.specs.Map.{Map, Plane}
 use Rattle.surgery.specs.Edits.{Grown}
 use Rattle.surgery.specs.Renumber.{renumber, exchange}
 use Rattle.surgery.proofs.Renumber.{renumber_plane, exchange_bijection, exchange_first, exchange_second, exchange_other}
-use Rattle.sheet.specs.declared.Sheet.{Sheet}
+use Rattle.clauses.specs.declared.Sheet.{Sheet}
 use Rattle.clauses.specs.Darts.{tail_dart, head_dart, is_tail, opposite}
 use Rattle.sheet.specs.Darts.{darts}
 use Rattle.sheet.specs.Sound.{Sound}
 use Rattle.soundness.specs.Maps.{map_with, map_of}
 use Rattle.soundness.proofs.Darts.{dart, dart_kind, dart_edge, dart_below, each_dart, by_dart, dart_opposite}
 use Rattle.soundness.proofs.Plane.{plane_of}
+use Rattle.preservation.proofs.Maps.{new_head}
 
 -- the darts of the edges k and l change places
 unfoldable pub swap : ℕ → ℕ → ℕ → ℕ
@@ -113,7 +111,7 @@ module _ (s : Sheet) (k l : ℕ) (ρ : ℕ → ℕ) (h : k < s.edges) (i : l < s
   pub exchanged_grown : (s' : Sheet) (r : ℕ → ℕ) → s.edges ≡ s'.edges + 1 → k ≢ 0 → l ≢ 0 → Grown (map_with s' r) (exchanged s k l ρ)
   exchanged_grown s' r e n o =
       let m = s'.edges in
-      let g : suc (darts s') ≡ head_dart m = omega arith in
+      let g = new_head s' in
       record {
         darts = omega arith;
         edges = omega arith;

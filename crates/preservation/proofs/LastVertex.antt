@@ -1,15 +1,13 @@
 -- The last vertex gets the number of a vertex that goes. Assumes nothing.
-use Prim.Native.Nat.{ℕ, ◌-◌, ◌≤◌, ◌<◌}
-use mathlib.Core.Path.{◌≡◌, refl, sym, ◌∙◌, ap}
-use mathlib.Core.Bool.{Bool, true, false}
-use native.Mathlib.Omega.{arith}
-use lib.ListN.{length-map}
-use Rattle.sheet.specs.declared.Sheet.{Sheet}
+use Rattle.std.proofs.Common.{ℕ, ◌-◌, ◌≤◌, ◌<◌, ◌≡◌, refl, sym, ◌∙◌, ap, Bool, true, false, arith}
+use Rattle.std.proofs.Math.ListN.{length-map}
+use Rattle.std.proofs.lemmas.List.{get_or-map}
+use Rattle.clauses.specs.declared.Sheet.{Sheet}
 use Rattle.sheet.specs.Darts.{Sized, darts, vertex, next}
 use Rattle.sheet.specs.Sound.{Unused}
 use Rattle.soundness.proofs.Darts.{dart, by_dart, dart_vertex}
 use Rattle.edit.specs.Changes.{renamed, last_vertex_to}
-use Rattle.preservation.proofs.Places.{named_at, named_zero}
+use Rattle.preservation.proofs.Places.{named_zero}
 
 module _ (t : Sheet) (z : Sized t) (v : ℕ) where
   abbrev t' : Sheet
@@ -35,8 +33,8 @@ module _ (t : Sheet) (z : Sized t) (v : ℕ) where
   named_vertex few = by_dart t (λ d. vertex t' d ≡ renamed w v (vertex t d)) each
     where
       each : (b : Bool) (j : ℕ) → j < t.edges → vertex t' (dart b j) ≡ renamed w v (vertex t (dart b j))
-      each true j h = dart_vertex t' true j ∙ named_at (renamed w v) t.tails j (omega (arith, z.tails)) ∙ ap (renamed w v) (sym (dart_vertex t true j))
-      each false j h = dart_vertex t' false j ∙ named_at (renamed w v) t.heads j (omega (arith, z.heads)) ∙ ap (renamed w v) (sym (dart_vertex t false j))
+      each true j h = dart_vertex t' true j ∙ get_or-map (renamed w v) t.tails j 0 0 (omega (arith, z.tails)) ∙ ap (renamed w v) (sym (dart_vertex t true j))
+      each false j h = dart_vertex t' false j ∙ get_or-map (renamed w v) t.heads j 0 0 (omega (arith, z.heads)) ∙ ap (renamed w v) (sym (dart_vertex t false j))
 
   pub named_sized : Sized t'
   unfolding last_vertex_to

@@ -1,10 +1,8 @@
 pub mod Maps
 pub mod Places
-pub mod Accepted
 pub mod PutIn
 pub mod Reaching
 pub mod RunEdge
-pub mod Fewer
 pub mod Removing
 pub mod Exchange
 pub mod LastEdge

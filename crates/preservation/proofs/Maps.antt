@@ -1,18 +1,14 @@
 -- A plane map of a sheet's darts makes the sheet sound. Assumes nothing.
-use Prim.Native.Nat.{ℕ, suc, ◌+◌, ◌/◌, ◌≤◌, ◌<◌}
-use mathlib.Core.Path.{◌≡◌, refl, sym, ◌∙◌, ap}
-use mathlib.Core.Logic.{◌≢◌}
-use mathlib.Core.Bool.{Bool, true, false}
-use native.Mathlib.Omega.{arith}
+use Rattle.std.proofs.Common.{ℕ, suc, ◌+◌, ◌/◌, ◌≤◌, ◌<◌, ◌≡◌, refl, sym, ◌∙◌, ap, ◌≢◌, Bool, true, false, arith}
 use Rattle.counting.proofs.Paths.{no_circle}
 use Rattle.counting.proofs.Iterate.{clash}
 use Rattle.planarmap.specs.Map.{Plane}
 use Rattle.surgery.specs.Edits.{Grown}
 use Rattle.surgery.specs.Statements.{Walks, Rises}
-use Rattle.sheet.specs.declared.Sheet.{Sheet}
-use Rattle.clauses.specs.Darts.{head_dart, is_tail, opposite}
-use Rattle.sheet.specs.Darts.{darts, vertex}
-use Rattle.sheet.specs.Sound.{Ring, Leads, Incoming, Outgoing, Sound}
+use Rattle.clauses.specs.declared.Sheet.{Sheet}
+use Rattle.clauses.specs.Darts.{head_dart, is_tail, opposite, tail_dart}
+use Rattle.sheet.specs.Darts.{darts, vertex, tail, head}
+use Rattle.sheet.specs.Sound.{Ring, Leads, Incoming, Outgoing, Sound, Joins, Unused, Limits}
 use Rattle.sheet.specs.Check.{face, face_count}
 use Rattle.soundness.specs.Maps.{map_with}
 use Rattle.soundness.proofs.Darts.{dart, dart_kind, dart_below, dart_is, dart_opposite, dart_vertex, edge_below}
@@ -72,15 +68,35 @@ module _ (s : Sheet) (row : ℕ → ℕ) (f : Framed s) (P : Plane (map_with s r
     euler = record { faces = face_count s; face = face s; numbered = P.bipolar.walks; two = P.euler };
   }
 
+module _ (s : Sheet) (row : ℕ → ℕ) (P : Plane (map_with s row)) where
+  -- an edge that rises joins two vertices
+  plane_joins : (k : ℕ) → k < s.edges → Joins s k
+  plane_joins k h =
+      let up = P.bipolar.rises (dart_below true h) (dart_kind true k) in
+      let low : vertex s (tail_dart k) ≡ tail s k = dart_vertex s true k in
+      let high : vertex s (opposite (tail_dart k)) ≡ head s k = ap (vertex s) (dart_opposite true k) ∙ dart_vertex s false k in
+      record {
+        tail_in = omega (arith, P.bipolar.vertex_below (dart_below true h));
+        head_in = omega (arith, P.bipolar.vertex_below (dart_below false h), dart_vertex s false k);
+        different = λ e. omega (arith, ap row low, ap row high, ap row e);
+      }
+
+  -- so the limits and the unused entries are all that is left to see
+  pub limited_sound : Limits s → Unused s → Sound s
+  limited_sound l u = plane_sound s row (record { limits = l; joins = plane_joins; unused = u }) P
+
 -- So an edit that makes a plane map with rows in which every edge rises makes a sound sheet.
-pub kept_sound : (s : Sheet) → Framed s → ((row : ℕ → ℕ) → Walks (map_with s row) → Rises (map_with s row) row → Plane (map_with s row))
+pub kept_sound : (s : Sheet) → Limits s → Unused s → ((row : ℕ → ℕ) → Walks (map_with s row) → Rises (map_with s row) row → Plane (map_with s row))
     → ((row : ℕ → ℕ) × Rises (map_with s row) row) → Sound s
-kept_sound s f plane (row, rises) = plane_sound s row f (plane row (walks_with s row f.limits.edges_most) rises)
+kept_sound s l u plane (row, rises) = limited_sound s row (plane row (walks_with s row l.edges_most) rises) l u
 
 -- a sheet with one edge more: the map's new darts
+pub new_head : (s : Sheet) → suc (darts s) ≡ head_dart s.edges
+new_head s = omega arith
+
 pub grown : (s s' : Sheet) (r r' : ℕ → ℕ) → s'.edges ≡ s.edges + 1 → Grown (map_with s r) (map_with s' r')
 grown s s' r r' e =
-    let h : suc (darts s) ≡ head_dart s.edges = omega arith in
+    let h = new_head s in
     record {
       darts = omega arith;
       edges = omega arith;

@@ -1,12 +1,7 @@
 -- What stands at a place of an array after darts were renamed. Assumes nothing.
-use Prim.Native.Nat.{ℕ, zero, suc, ◌<◌}
-use mathlib.Core.Path.{◌≡◌, refl, sym, ◌∙◌, ap}
-use mathlib.Core.Logic.{◌≢◌}
-use mathlib.Core.List.{List, [], ◌∷◌, map}
-use native.Mathlib.Omega.{arith}
-use lib.ListN.{get_or, set, length, length-map, length-set}
-use lib.Seq.{get_or-set_same, get_or-set_other}
-use borrow.Author.Tests.{eq-eqb, ne_eqb}
+use Rattle.std.proofs.Common.{ℕ, zero, suc, ◌<◌, ◌≡◌, refl, sym, ◌∙◌, ap, ◌≢◌, List, [], ◌∷◌, map, arith, get_or, set, length, length-set, get_or-set_same, get_or-set_other, eq-eqb, ne_eqb}
+use Rattle.std.proofs.Math.ListN.{length-map}
+use Rattle.std.proofs.lemmas.List.{get_or-map}
 use Rattle.edit.specs.Changes.{renamed, replace_dart, insert_dart}
 
 pub renamed_old : (a b : ℕ) → renamed a b a ≡ b
@@ -16,12 +11,6 @@ renamed_old a b = rw (eq-eqb a a refl) refl
 pub renamed_other : (a b x : ℕ) → x ≢ a → renamed a b x ≡ x
 unfolding renamed
 renamed_other a b x n = rw (ne_eqb x a n) refl
-
--- a renamed array
-pub named_at : (f : ℕ → ℕ) (l : List ℕ) (i : ℕ) → i < length l → get_or (map f l) i 0 ≡ f (get_or l i 0)
-named_at f [] i h = absurd (omega arith)
-named_at f (x ∷ l) zero h = refl
-named_at f (x ∷ l) (suc i) h = named_at f l i (omega arith)
 
 -- past its end, and where nothing stands, nothing stands
 pub named_zero : (a b : ℕ) (l : List ℕ) (i : ℕ) → a ≢ 0 → get_or l i 0 ≡ 0 → get_or (map (renamed a b) l) i 0 ≡ 0
@@ -39,11 +28,11 @@ module _ (old new : ℕ) (l : List ℕ) where
   unfolding replace_dart
   replace_new h k =
       get_or-set_same (map (renamed old new) l) new (get_or (map (renamed old new) l) old 0) 0 (omega (arith, length-map l (renamed old new)))
-      ∙ named_at (renamed old new) l old h
+      ∙ get_or-map (renamed old new) l old 0 0 h
 
   pub replace_at : (d : ℕ) → d ≢ new → d < length l → get_or (replace_dart old new l) d 0 ≡ renamed old new (get_or l d 0)
   unfolding replace_dart
-  replace_at d n h = get_or-set_other (map (renamed old new) l) new d (get_or (map (renamed old new) l) old 0) 0 n ∙ named_at (renamed old new) l d h
+  replace_at d n h = get_or-set_other (map (renamed old new) l) new d (get_or (map (renamed old new) l) old 0) 0 n ∙ get_or-map (renamed old new) l d 0 0 h
 
   pub replace_zero : (d : ℕ) → d ≢ new → old ≢ 0 → get_or l d 0 ≡ 0 → get_or (replace_dart old new l) d 0 ≡ 0
   unfolding replace_dart

@@ -1,38 +1,25 @@
 -- Put in keeps a sheet sound. Assumes nothing.
-use Rattle.std.specs.Prelude.{Ok}
-use Prim.Native.Nat.{ℕ, suc, ◌+◌, ◌≤◌, ◌<◌}
-use mathlib.Core.Path.{◌≡◌, refl, sym, ◌∙◌, ap}
-use mathlib.Core.Logic.{◌≢◌, by_cases}
-use mathlib.Core.Bool.{Bool, true, false, not, ◌||◌}
-use mathlib.Core.List.{List}
-use native.Mathlib.Decide.{ℕ_discrete}
-use native.Mathlib.Numerals.{add-one}
-use native.Mathlib.Omega.{arith}
-use lib.Dec.{eqb}
-use lib.ListN.{get_or, set, length, length-set}
-use lib.Seq.{get_or-set_same, get_or-set_other}
+use Rattle.std.proofs.Common.{Ok, ℕ, ◌+◌, ◌<◌, ◌≡◌, refl, sym, ◌∙◌, ap, ◌≢◌, Bool, true, false, not, ◌||◌, List, add-one, arith, eqb, get_or, set, length, length-set, get_or-set_same, get_or-set_other, leb-false}
+use Rattle.std.proofs.lemmas.Bool.{eqb-false, or_parts}
 use Rattle.surgery.specs.Edits.{Subdivided}
 use Rattle.surgery.proofs.Grow.{head_not_alone}
 use Rattle.surgery.proofs.Subdivide.{subdivided_plane, subdivided_rises}
-use Rattle.sheet.specs.declared.Sheet.{Sheet}
+use Rattle.clauses.specs.declared.Sheet.{Sheet}
 use Rattle.clauses.specs.Darts.{tail_dart, head_dart, opposite}
 use Rattle.sheet.specs.Darts.{Sized, tail, head, darts, vertex, next}
-use Rattle.sheet.specs.Sound.{Joins, Sound}
+use Rattle.sheet.specs.Sound.{Sound, Unused}
 use Rattle.sheet.specs.Check.{sound, row}
 use Rattle.soundness.specs.Maps.{map_with, map_of}
 use Rattle.soundness.proofs.Darts.{dart, dart_kind, dart_below, by_dart, dart_opposite, dart_vertex}
 use Rattle.soundness.proofs.Plane.{plane_of}
-use Rattle.soundness.proofs.Law.{sound_law}
+use Rattle.soundness.proofs.Law.{was_sound}
 use Rattle.answers.specs.declared.Refusal.TheVariants.{NotSound, NotInSheet, RootEdge, Full}
 use Rattle.answers.specs.Answers.{refusal_number}
-use Rattle.counting.proofs.Iterate.{not-false}
 use Rattle.edit.specs.Calls.{no_edge, put_in_answer}
 use Rattle.edit.specs.Changes.{renamed, replace_dart, put_in}
 use Rattle.preservation.specs.Laws.{PutInWhole}
-use Rattle.preservation.specs.Maps.{Framed}
-use Rattle.preservation.proofs.Maps.{kept_sound, grown}
+use Rattle.preservation.proofs.Maps.{kept_sound, grown, new_head}
 use Rattle.answers.proofs.Refusals.{passed}
-use Rattle.preservation.proofs.Accepted.{neither, other_number, not_at_most}
 use Rattle.preservation.proofs.Places.{renamed_old, renamed_other, replace_size, replace_new, replace_at, replace_zero}
 
 module _ (s : Sheet) (z : Sized s) (S : Sound s) (k : ℕ) (k_in : k < s.edges) (k_other : k ≢ 0) (n_room : s.vertices < 128) (m_room : s.edges < 256) where
@@ -122,42 +109,15 @@ module _ (s : Sheet) (z : Sized s) (S : Sound s) (k : ℕ) (k_in : k < s.edges) 
   next_rest d h n =
       next_old d n (λ e. omega arith) ∙ replace_at (head_dart k) (head_dart m) s.nexts d (λ e. omega arith) (omega (arith, z.nexts))
 
-  framed : Framed s'
-  framed = record {
-    limits = record { vertices_least = omega (arith, vertices_more, S.limits.vertices_least); vertices_most = omega (arith, vertices_more); edges_least = omega (arith, edges_more, S.limits.edges_least); edges_most = omega (arith, edges_more) };
-    joins = joins;
-    unused = record { tails = unused_tails; heads = unused_heads; nexts = unused_nexts };
+  unused : Unused s'
+  unused = record {
+    tails = λ j h. tail_old j (λ q. omega (arith, edges_more)) ∙ S.unused.tails j (omega (arith, edges_more));
+    heads = λ j h. head_old j (λ q. omega (arith, edges_more)) (λ q. omega (arith, edges_more)) ∙ S.unused.heads j (omega (arith, edges_more));
+    nexts = λ d h.
+        let e = edges_more in
+        next_old d (λ q. omega arith) (λ q. omega arith)
+        ∙ replace_zero (head_dart k) (head_dart m) s.nexts d (λ q. omega arith) (λ q. omega arith) (S.unused.nexts d (omega arith));
   }
-    where
-      joins : (j : ℕ) → j < s'.edges → Joins s' j
-      joins j h = by_cases (ℕ_discrete j m)
-          (λ e. let t = tail_new in
-          let u = head_new in
-          let J = S.joins k k_in in
-          record {
-            tail_in = rw e (omega (arith, vertices_more));
-            head_in = rw e (omega (arith, J.head_in, vertices_more));
-            different = rw e (λ q. omega (arith, J.head_in));
-          })
-          (λ e. let J = S.joins j (omega (arith, edges_more)) in
-          let t = tail_old j e in
-          by_cases (ℕ_discrete j k)
-          (λ q. let u : head s' j ≡ s.vertices = ap (head s') q ∙ head_split in
-          record { tail_in = omega (arith, J.tail_in, vertices_more); head_in = omega (arith, vertices_more); different = λ p. omega (arith, J.tail_in) })
-          (λ q. let u = head_old j q e in
-          record { tail_in = omega (arith, J.tail_in, vertices_more); head_in = omega (arith, J.head_in, vertices_more); different = λ p. J.different (sym t ∙ p ∙ u) }))
-
-      unused_tails : (j : ℕ) → s'.edges ≤ j → tail s' j ≡ 0
-      unused_tails j h = let e = edges_more in tail_old j (λ q. omega arith) ∙ S.unused.tails j (omega arith)
-
-      unused_heads : (j : ℕ) → s'.edges ≤ j → head s' j ≡ 0
-      unused_heads j h = let e = edges_more in head_old j (λ q. omega arith) (λ q. omega arith) ∙ S.unused.heads j (omega arith)
-
-      unused_nexts : (d : ℕ) → darts s' ≤ d → next s' d ≡ 0
-      unused_nexts d h =
-          let e = edges_more in
-          next_old d (λ q. omega arith) (λ q. omega arith)
-          ∙ replace_zero (head_dart k) (head_dart m) s.nexts d (λ q. omega arith) (λ q. omega arith) (S.unused.nexts d (omega arith))
 
   -- the edit of the map
   b_other : head_dart k ≢ opposite 0
@@ -173,9 +133,6 @@ module _ (s : Sheet) (z : Sized s) (S : Sound s) (k : ℕ) (k_in : k < s.edges) 
       each true j h n = dart_vertex s' true j ∙ tail_old j (λ q. omega arith) ∙ sym (dart_vertex s true j)
       each false j h n = dart_vertex s' false j ∙ head_old j (λ q. n (ap head_dart q)) (λ q. omega arith) ∙ sym (dart_vertex s false j)
 
-  new_head : suc (darts s) ≡ head_dart m
-  new_head = omega arith
-
   subdivided : (r : ℕ → ℕ) → Subdivided (map_of s) (map_with s' r) (head_dart k)
   subdivided r = record {
     grown = grown s s' (row s) r edges_more;
@@ -185,19 +142,19 @@ module _ (s : Sheet) (z : Sized s) (S : Sound s) (k : ℕ) (k_in : k < s.edges) 
     b_other = b_other;
     next_b = next_split;
     next_tail = next_tail;
-    next_head = ap (next s') new_head ∙ next_head ∙ renamed_other (head_dart k) (head_dart m) (next s (head_dart k)) b_next;
-    next_before = λ {d} h n e. next_rest d h n ∙ ap (renamed (head_dart k) (head_dart m)) e ∙ renamed_old (head_dart k) (head_dart m) ∙ sym new_head;
+    next_head = ap (next s') (new_head s) ∙ next_head ∙ renamed_other (head_dart k) (head_dart m) (next s (head_dart k)) b_next;
+    next_before = λ {d} h n e. next_rest d h n ∙ ap (renamed (head_dart k) (head_dart m)) e ∙ renamed_old (head_dart k) (head_dart m) ∙ sym (new_head s);
     next_rest = λ {d} h n e. next_rest d h n ∙ renamed_other (head_dart k) (head_dart m) (next s d) e;
     vertex_b = dart_vertex s' false k ∙ head_split;
     vertex_tail = dart_vertex s' true m ∙ tail_new;
-    vertex_head = ap (vertex s') new_head ∙ dart_vertex s' false m ∙ head_new ∙ sym (dart_vertex s false k);
+    vertex_head = ap (vertex s') (new_head s) ∙ dart_vertex s' false m ∙ head_new ∙ sym (dart_vertex s false k);
     vertex_rest = λ {d} h n. vertex_rest d h n;
   }
 
   put_in_sound : Sound s'
   put_in_sound =
       let P = plane_of S in
-      kept_sound s' framed (λ r w u. subdivided_plane P (subdivided r) w u)
+      kept_sound s' (omega (arith, vertices_more, edges_more, S.limits)) unused (λ r w u. subdivided_plane P (subdivided r) w u)
       (subdivided_rises {M' = map_with s' (row s)} P.bipolar (subdivided (row s)) (row s) (λ d h t. P.bipolar.rises h t))
 
 -- what an accepted call was given
@@ -214,14 +171,14 @@ put_in_given s k z e =
     let a = passed NotSound (not (sound s)) _ e in
     let b = passed NotInSheet (no_edge s k) _ a.1 in
     let c = passed RootEdge (eqb k 0) _ b.1 in
-    let d = neither (eqb s.vertices 128) (eqb s.edges 256) (passed Full (eqb s.vertices 128 || eqb s.edges 256) _ c.1).0 in
-    let S = (sound_law s z).0 (not-false (sound s) a.0) in
+    let d = or_parts (eqb s.vertices 128) (eqb s.edges 256) (passed Full (eqb s.vertices 128 || eqb s.edges 256) _ c.1).0 in
+    let S = was_sound s z a.0 in
     record {
       is_sound = S;
-      k_in = not_at_most s.edges k b.0;
-      k_other = other_number k 0 c.0;
-      n_room = omega (arith, S.limits.vertices_most, other_number s.vertices 128 d.0);
-      m_room = omega (arith, S.limits.edges_most, other_number s.edges 256 d.1);
+      k_in = leb-false s.edges k b.0;
+      k_other = eqb-false k 0 c.0;
+      n_room = omega (arith, S.limits.vertices_most, eqb-false s.vertices 128 d.0);
+      m_room = omega (arith, S.limits.edges_most, eqb-false s.edges 256 d.1);
     }
 
 pub put_in_whole : PutInWhole

@@ -1,19 +1,15 @@
 -- The marks of a directed search: a bar is marked exactly where a path leads to it. Assumes nothing.
-use Prim.Native.Nat.{ℕ, zero, suc, ◌+◌, ◌≤◌, ◌<◌}
-use mathlib.Core.Path.{◌≡◌, refl, sym, ◌∙◌}
-use mathlib.Core.Logic.{by_cases}
-use mathlib.Core.Bool.{Bool, true, false, cond, false≢true}
-use mathlib.Core.List.{List}
-use native.Mathlib.Decide.{ℕ_discrete}
-use native.Mathlib.Omega.{arith}
-use lib.ListN.{get_or, set, length, replicate, length-set, length-replicate}
-use lib.Seq.{get_or-set_same, get_or-set_other}
+use Rattle.std.proofs.Common.{ℕ, zero, suc, ◌+◌, ◌≤◌, ◌<◌, ◌≡◌, refl, sym, ◌∙◌, Bool, true, false, cond, List, arith, get_or, set, length, replicate, length-set, get_or-set_same, get_or-set_other}
+use Rattle.std.proofs.Math.Logic.{by_cases}
+use Rattle.std.proofs.lemmas.Bool.{false≢true}
+use Rattle.std.proofs.Math.Decide.{ℕ_discrete}
+use Rattle.std.proofs.Math.ListN.{length-replicate}
 use Rattle.counting.specs.Paths.{Path}
 use Rattle.counting.specs.Paths.Path.{here, more}
 use Rattle.counting.proofs.Paths.{short}
-use Rattle.counting.proofs.Stores.{Stored, stored}
+use Rattle.counting.proofs.Stores.{Stored, stored, replicate_at}
 use Rattle.counting.proofs.Iterate.{by_bool}
-use Rattle.sheet.specs.declared.Sheet.{Sheet}
+use Rattle.clauses.specs.declared.Sheet.{Sheet}
 use Rattle.sheet.specs.Darts.{tail, head}
 use Rattle.sheet.specs.Sound.{Leads, Sound}
 use Rattle.edit.specs.Reaching.{marked, marked_times, leads_to}
@@ -22,12 +18,6 @@ use Rattle.preservation.specs.Laws.{LeadsToLaw}
 -- bar v is marked
 abbrev Marked : List Bool → ℕ → Type 0
 Marked marks v = get_or marks v false ≡ true
-
--- nothing is marked at first
-none : (n v : ℕ) → get_or (replicate n false) v false ≡ false
-none zero v = refl
-none (suc n) zero = refl
-none (suc n) (suc v) = none n v
 
 module _ (s : Sheet) (S : Sound s) where
   head_in : (k : ℕ) → k < s.edges → head s k < 128
@@ -127,7 +117,7 @@ module _ (s : Sheet) (S : Sound s) where
 
     start_only : (v : ℕ) → Marked start v → v ≡ b
     unfolding start
-    start_only v e = by_cases (ℕ_discrete v b) (λ q. q) (λ n. absurd (false≢true (sym (none 128 v) ∙ sym (get_or-set_other (replicate 128 false) b v true false n) ∙ e)))
+    start_only v e = by_cases (ℕ_discrete v b) (λ q. q) (λ n. absurd (false≢true (sym (replicate_at false 128 v) ∙ sym (get_or-set_other (replicate 128 false) b v true false n) ∙ e)))
 
 pub leads_to_law : LeadsToLaw
 unfolding leads_to start

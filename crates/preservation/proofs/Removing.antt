@@ -1,16 +1,13 @@
 -- What stands at a place after a dart left its ring, and after the last entry of an array got another's place. Assumes nothing.
-use Prim.Native.Nat.{ℕ, ◌≤◌, ◌<◌}
-use mathlib.Core.Path.{◌≡◌, sym, ◌∙◌, ap}
-use mathlib.Core.Logic.{◌≢◌, by_cases}
-use mathlib.Core.List.{List}
-use native.Mathlib.Decide.{ℕ_discrete}
-use native.Mathlib.Omega.{arith}
-use lib.ListN.{get_or, set, length, length-map, length-set}
-use lib.Seq.{get_or-set_same, get_or-set_other}
+use Rattle.std.proofs.Common.{ℕ, ◌≤◌, ◌<◌, ◌≡◌, sym, ◌∙◌, ap, ◌≢◌, List, arith, get_or, set, length, length-set, get_or-set_same, get_or-set_other}
+use Rattle.std.proofs.Math.Logic.{by_cases}
+use Rattle.std.proofs.Math.Decide.{ℕ_discrete}
+use Rattle.std.proofs.Math.ListN.{length-map}
+use Rattle.std.proofs.lemmas.List.{get_or-map}
 use Rattle.surgery.specs.Renumber.{exchange}
 use Rattle.surgery.proofs.Renumber.{exchange_first, exchange_other}
 use Rattle.edit.specs.Changes.{renamed, replace_dart, remove_dart}
-use Rattle.preservation.proofs.Places.{named_at, named_zero, replace_new, replace_at}
+use Rattle.preservation.proofs.Places.{named_zero, replace_new, replace_at}
 
 -- a dart that left its ring
 module _ (d : ℕ) (xs : List ℕ) where
@@ -20,7 +17,7 @@ module _ (d : ℕ) (xs : List ℕ) where
 
   pub remove_at : (e : ℕ) → e < length xs → get_or (remove_dart d xs) e 0 ≡ renamed d (get_or xs d 0) (get_or xs e 0)
   unfolding remove_dart
-  remove_at e h = named_at (renamed d (get_or xs d 0)) xs e h
+  remove_at e h = get_or-map (renamed d (get_or xs d 0)) xs e 0 0 h
 
   pub remove_zero : (e : ℕ) → d ≢ 0 → get_or xs e 0 ≡ 0 → get_or (remove_dart d xs) e 0 ≡ 0
   unfolding remove_dart

@@ -1,40 +1,29 @@
 -- Run keeps a sheet sound. Assumes nothing.
-use Prim.Native.Nat.{ℕ, suc, ◌+◌, ◌≤◌, ◌<◌}
-use mathlib.Core.Path.{◌≡◌, refl, sym, ◌∙◌, ap}
-use mathlib.Core.Logic.{◌≢◌, by_cases}
-use mathlib.Core.Bool.{Bool, true, false, not, ◌||◌}
-use mathlib.Core.List.{List}
-use native.Mathlib.Decide.{ℕ_discrete}
-use native.Mathlib.Omega.{arith}
-use lib.Dec.{eqb}
-use borrow.Author.Tests.{eqb-true}
-use lib.ListN.{get_or, length, length-set}
-use lib.Seq.{get_or-set_same, get_or-set_other}
+use Rattle.std.proofs.Common.{ℕ, suc, ◌+◌, ◌<◌, ◌≡◌, refl, sym, ◌∙◌, ap, ◌≢◌, Bool, true, false, not, ◌||◌, List, arith, eqb, eqb-true, get_or, length, length-set, get_or-set_same, get_or-set_other, leb-false}
+use Rattle.std.proofs.lemmas.Bool.{not-false, eqb-false, or_parts}
 use Rattle.counting.specs.Paths.Path.{here, more}
-use Rattle.counting.proofs.Iterate.{not-false, clash}
+use Rattle.counting.proofs.Iterate.{clash}
 use Rattle.surgery.specs.Edits.{Added}
 use Rattle.surgery.proofs.Add.{added_plane, added_rises}
 use Rattle.answers.specs.declared.Refusal.TheVariants.{NotSound, NotInSheet, CornersApart, ClosesCircle, Full}
 use Rattle.answers.specs.Answers.{refusal_number}
-use Rattle.sheet.specs.declared.Sheet.{Sheet}
+use Rattle.clauses.specs.declared.Sheet.{Sheet}
 use Rattle.clauses.specs.Darts.{tail_dart, head_dart, is_tail, opposite}
 use Rattle.sheet.specs.Darts.{Sized, tail, head, darts, vertex, touches, dart_at, next}
-use Rattle.sheet.specs.Sound.{Joins, Sound}
+use Rattle.sheet.specs.Sound.{Sound, Unused}
 use Rattle.sheet.specs.Check.{sound, row}
 use Rattle.soundness.specs.Maps.{map_with, map_of}
 use Rattle.soundness.proofs.Darts.{dart, dart_kind, by_dart, dart_opposite, dart_vertex}
 use Rattle.soundness.proofs.Ends.{at_below, at_end}
 use Rattle.soundness.proofs.Plane.{plane_of}
-use Rattle.soundness.proofs.Law.{sound_law}
+use Rattle.soundness.proofs.Law.{was_sound}
 use Rattle.edit.specs.Reaching.{leads_to}
 use Rattle.edit.specs.Changes.{insert_dart, run_edge}
 use Rattle.edit.specs.Calls.{no_edge, no_vertex, corner_face, run_answer}
 use Rattle.preservation.specs.Laws.{RunWhole}
-use Rattle.preservation.specs.Maps.{Framed}
-use Rattle.preservation.proofs.Maps.{kept_sound, grown}
+use Rattle.preservation.proofs.Maps.{kept_sound, grown, new_head}
 use Rattle.preservation.proofs.Reaching.{leads_to_law}
 use Rattle.answers.proofs.Refusals.{passed}
-use Rattle.preservation.proofs.Accepted.{neither, other_number, not_at_most}
 use Rattle.preservation.proofs.Places.{insert_size, insert_at, insert_new, insert_rest}
 
 -- what an accepted call was given
@@ -150,37 +139,14 @@ module _ (s : Sheet) (z : Sized s) (S : Sound s) (a p b q : ℕ) (g : Given s a 
       insert_new (head_dart m) Q nexts₁ head_apart (omega (arith, room, nexts₁_size))
       ∙ insert_rest (tail_dart m) P s.nexts tail_apart Q (λ e. two (sym e)) (λ e. omega (arith, q_is_below))
 
-  framed : Framed s'
-  framed = record {
-    limits = record { vertices_least = omega (arith, vertices_same, S.limits.vertices_least); vertices_most = omega (arith, vertices_same, S.limits.vertices_most); edges_least = omega (arith, edges_more, S.limits.edges_least); edges_most = omega (arith, edges_more, room) };
-    joins = joins;
-    unused = record { tails = unused_tails; heads = unused_heads; nexts = unused_nexts };
+  unused : Unused s'
+  unused = record {
+    tails = λ j h. tail_old j (λ w. omega (arith, edges_more)) ∙ S.unused.tails j (omega (arith, edges_more));
+    heads = λ j h. head_old j (λ w. omega (arith, edges_more)) ∙ S.unused.heads j (omega (arith, edges_more));
+    nexts = λ d h.
+        let e = edges_more in
+        next_old d (λ w. omega (arith, p_is_below)) (λ w. omega (arith, q_is_below)) (λ w. omega arith) (λ w. omega arith) ∙ S.unused.nexts d (omega arith);
   }
-    where
-      joins : (j : ℕ) → j < s'.edges → Joins s' j
-      joins j h = by_cases (ℕ_discrete j m)
-          (λ e. let t : tail s' j ≡ a = ap (tail s') e ∙ tail_new in
-          let u : head s' j ≡ b = ap (head s') e ∙ head_new in
-          record {
-            tail_in = omega (arith, g.a_in, vertices_same);
-            head_in = omega (arith, g.b_in, vertices_same);
-            different = λ w. g.other (sym t ∙ w ∙ u);
-          })
-          (λ e. let J = S.joins j (omega (arith, edges_more)) in
-          let t = tail_old j e in
-          let u = head_old j e in
-          record { tail_in = omega (arith, J.tail_in, vertices_same); head_in = omega (arith, J.head_in, vertices_same); different = λ w. J.different (sym t ∙ w ∙ u) })
-
-      unused_tails : (j : ℕ) → s'.edges ≤ j → tail s' j ≡ 0
-      unused_tails j h = let e = edges_more in tail_old j (λ w. omega arith) ∙ S.unused.tails j (omega arith)
-
-      unused_heads : (j : ℕ) → s'.edges ≤ j → head s' j ≡ 0
-      unused_heads j h = let e = edges_more in head_old j (λ w. omega arith) ∙ S.unused.heads j (omega arith)
-
-      unused_nexts : (d : ℕ) → darts s' ≤ d → next s' d ≡ 0
-      unused_nexts d h =
-          let e = edges_more in
-          next_old d (λ w. omega (arith, p_is_below)) (λ w. omega (arith, q_is_below)) (λ w. omega arith) (λ w. omega arith) ∙ S.unused.nexts d (omega arith)
 
   -- the edit of the map
   vertex_rest : (d : ℕ) → d < darts s → vertex s' d ≡ vertex s d
@@ -189,9 +155,6 @@ module _ (s : Sheet) (z : Sized s) (S : Sound s) (a p b q : ℕ) (g : Given s a 
       each : (c : Bool) (j : ℕ) → j < s.edges → vertex s' (dart c j) ≡ vertex s (dart c j)
       each true j h = dart_vertex s' true j ∙ tail_old j (λ w. omega arith) ∙ sym (dart_vertex s true j)
       each false j h = dart_vertex s' false j ∙ head_old j (λ w. omega arith) ∙ sym (dart_vertex s false j)
-
-  new_head : suc (darts s) ≡ head_dart m
-  new_head = omega arith
 
   added : (r : ℕ → ℕ) → Added (map_of s) (map_with s' r) P Q
   added r = record {
@@ -203,12 +166,12 @@ module _ (s : Sheet) (z : Sized s) (S : Sound s) (a p b q : ℕ) (g : Given s a 
       two = two;
       at_p = next_at_p;
       at_x = next_tail;
-      at_q = next_at_q ∙ sym new_head;
-      at_y = ap (next s') new_head ∙ next_head;
+      at_q = next_at_q ∙ sym (new_head s);
+      at_y = ap (next s') (new_head s) ∙ next_head;
       rest = λ {d} h n k. next_old d n k (λ w. omega arith) (λ w. omega arith);
     };
     vertex_tail = dart_vertex s' true m ∙ tail_new ∙ sym p_vertex;
-    vertex_head = ap (vertex s') new_head ∙ dart_vertex s' false m ∙ head_new ∙ sym q_vertex;
+    vertex_head = ap (vertex s') (new_head s) ∙ dart_vertex s' false m ∙ head_new ∙ sym q_vertex;
     vertex_rest = λ {d} h. vertex_rest d h;
   }
 
@@ -228,7 +191,7 @@ module _ (s : Sheet) (z : Sized s) (S : Sound s) (a p b q : ℕ) (g : Given s a 
   unfolding corner_face
   run_sound =
       let M = plane_of S in
-      kept_sound s' framed (λ r w u. added_plane M (added r) w u g.one_face)
+      kept_sound s' (omega (arith, vertices_same, edges_more, room, S.limits)) unused (λ r w u. added_plane M (added r) w u g.one_face)
       (added_rises {M' = map_with s' (row s)} M.bipolar (added (row s)) (leads_to s b) above_rises
       (ap (leads_to s b) q_vertex ∙ (leads_to_law s S b b g.b_in g.b_in).1 (0, here)) (ap (leads_to s b) p_vertex ∙ g.no_path)
       (row s) (λ d h t. M.bipolar.rises h t))
@@ -242,23 +205,23 @@ run_whole s a p b q z e =
     let k = passed CornersApart (not (touches s p a) || not (touches s q b) || not (eqb (corner_face s a p) (corner_face s b q))) _ j.1 in
     let l = passed ClosesCircle (eqb a b || leads_to s b a) _ k.1 in
     let o = passed Full (eqb s.edges 256) _ l.1 in
-    let S = (sound_law s z).0 (not-false (sound s) i.0) in
-    let (jr, jq) = neither (no_vertex s a || no_vertex s b || no_edge s p) (no_edge s q) j.0 in
-    let (jv, jp) = neither (no_vertex s a || no_vertex s b) (no_edge s p) jr in
-    let (ja, jb) = neither (no_vertex s a) (no_vertex s b) jv in
-    let (kt, kf) = neither (not (touches s p a) || not (touches s q b)) (not (eqb (corner_face s a p) (corner_face s b q))) k.0 in
-    let (kp, kq) = neither (not (touches s p a)) (not (touches s q b)) kt in
-    let (le, ll) = neither (eqb a b) (leads_to s b a) l.0 in
+    let S = was_sound s z i.0 in
+    let (jr, jq) = or_parts (no_vertex s a || no_vertex s b || no_edge s p) (no_edge s q) j.0 in
+    let (jv, jp) = or_parts (no_vertex s a || no_vertex s b) (no_edge s p) jr in
+    let (ja, jb) = or_parts (no_vertex s a) (no_vertex s b) jv in
+    let (kt, kf) = or_parts (not (touches s p a) || not (touches s q b)) (not (eqb (corner_face s a p) (corner_face s b q))) k.0 in
+    let (kp, kq) = or_parts (not (touches s p a)) (not (touches s q b)) kt in
+    let (le, ll) = or_parts (eqb a b) (leads_to s b a) l.0 in
     let g : Given s a p b q = record {
-      a_in = not_at_most s.vertices a ja;
-      b_in = not_at_most s.vertices b jb;
-      p_in = not_at_most s.edges p jp;
-      q_in = not_at_most s.edges q jq;
+      a_in = leb-false s.vertices a ja;
+      b_in = leb-false s.vertices b jb;
+      p_in = leb-false s.edges p jp;
+      q_in = leb-false s.edges q jq;
       p_touches = not-false (touches s p a) kp;
       q_touches = not-false (touches s q b) kq;
       one_face = eqb-true (corner_face s a p) (corner_face s b q) (not-false (eqb (corner_face s a p) (corner_face s b q)) kf);
-      other = other_number a b le;
+      other = eqb-false a b le;
       no_path = ll;
-      room = omega (arith, S.limits.edges_most, other_number s.edges 256 o.0);
+      room = omega (arith, S.limits.edges_most, eqb-false s.edges 256 o.0);
     } in
     (run_sound s z S a p b q g, run_sized s z S a p b q g)

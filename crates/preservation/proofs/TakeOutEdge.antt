@@ -1,20 +1,12 @@
 -- Take out a wire keeps a sheet sound. Assumes nothing.
-use Prim.Native.Nat.{ℕ, suc, ◌-◌, ◌*◌, ◌<◌}
-use mathlib.Core.Path.{◌≡◌, refl, sym, ◌∙◌, ap}
-use mathlib.Core.Logic.{◌≢◌, inl, inr}
-use mathlib.Core.Bool.{Bool, true, false, not, ◌||◌}
-use mathlib.Core.List.{List}
-use native.Mathlib.Omega.{arith}
-use lib.Dec.{eqb}
-use lib.ListN.{get_or, length}
-use borrow.Author.Tests.{eqb-true}
-use Rattle.counting.proofs.Iterate.{either, not-false}
-use Rattle.counting.proofs.Counts.{eqb_same}
+use Rattle.std.proofs.Common.{ℕ, suc, ◌-◌, ◌*◌, ◌<◌, ◌≡◌, refl, sym, ◌∙◌, ap, ◌≢◌, inl, inr, Bool, true, false, not, ◌||◌, List, arith, eqb, get_or, length, eqb-true, leb-false, eq-eqb}
+use Rattle.std.proofs.lemmas.Bool.{eqb-false, or_parts}
+use Rattle.counting.proofs.Iterate.{either}
 use Rattle.planarmap.specs.Map.{Map, Bipolar, Plane}
 use Rattle.surgery.specs.Edits.{Deleted}
 use Rattle.surgery.specs.Statements.{Rises}
 use Rattle.surgery.proofs.Delete.{deleted_plane, deleted_rises}
-use Rattle.sheet.specs.declared.Sheet.{Sheet}
+use Rattle.clauses.specs.declared.Sheet.{Sheet}
 use Rattle.clauses.specs.Darts.{tail_dart, head_dart, is_tail}
 use Rattle.sheet.specs.Darts.{Sized, tail, head, darts, vertex, next}
 use Rattle.sheet.specs.Sound.{Unused, Sound}
@@ -22,16 +14,14 @@ use Rattle.sheet.specs.Check.{sound, row}
 use Rattle.soundness.specs.Maps.{map_with, map_of}
 use Rattle.soundness.proofs.Darts.{dart, dart_kind, dart_below, dart_vertex}
 use Rattle.soundness.proofs.Plane.{plane_of}
-use Rattle.soundness.proofs.Law.{sound_law}
+use Rattle.soundness.proofs.Law.{was_sound}
 use Rattle.answers.specs.declared.Refusal.TheVariants.{NotSound, NotInSheet, RootEdge, EdgeNeeded}
 use Rattle.answers.specs.Answers.{refusal_number}
 use Rattle.edit.specs.Changes.{renamed, remove_dart, last_edge_to, take_out_edge}
 use Rattle.edit.specs.Calls.{no_edge, out_degree, in_degree, take_out_edge_answer}
 use Rattle.preservation.specs.Laws.{TakeOutEdgeWhole}
-use Rattle.preservation.proofs.Maps.{walks_with}
-use Rattle.preservation.proofs.Fewer.{fewer_sound}
+use Rattle.preservation.proofs.Maps.{walks_with, limited_sound}
 use Rattle.answers.proofs.Refusals.{passed}
-use Rattle.preservation.proofs.Accepted.{neither, other_number, not_at_most}
 use Rattle.preservation.proofs.Places.{renamed_old, renamed_other}
 use Rattle.preservation.proofs.Removing.{remove_size, remove_at, remove_zero}
 use Rattle.preservation.proofs.Exchange.{swap, swap_back, swap_below, swap_from, swap_second, swap_low, swap_not, swap_high, exchanged, exchanged_plane, exchanged_grown}
@@ -141,7 +131,7 @@ module _ (s : Sheet) (z : Sized s) (S : Sound s) (k : ℕ) (k_in : k < s.edges) 
   module _ (k_other : k ≢ 0) (three : s.edges ≢ 2) (many : (b : Bool) → degree s b (end_of s b k) ≢ 1) where
     other : (b : Bool) → (d : ℕ) × (d < 2 * l) × (M.vertex d ≡ M.vertex (dart b l)) × (M.out d ≡ b)
     other b =
-        let (j, g, n, q) = another (λ x. eqb (end_of s b x) (end_of s b k)) s.edges k k_in (eqb_same (end_of s b k)) (many b) in
+        let (j, g, n, q) = another (λ x. eqb (end_of s b x) (end_of s b k)) s.edges k k_in (eq-eqb (end_of s b k) (end_of s b k) refl) (many b) in
         let back : swap k l (swap k l (dart b j)) ≡ dart b j = swap_back s k l k_in l_in (dart b j) (dart_below b g) in (
           swap k l (dart b j),
           swap_low s k l k_in l_in last b j g n,
@@ -186,9 +176,8 @@ module _ (s : Sheet) (z : Sized s) (S : Sound s) (k : ℕ) (k_in : k < s.edges) 
     deleted_sound =
         let e = edges_fewer in
         let v = last_vertices t t_sized S.limits.edges_most k k_in in
-        fewer_sound s' (row s) (deleted_plane P (deleted (row s)) (walks_with s' (row s) (omega (arith, S.limits.edges_most))) rises)
-        (omega (arith, S.limits.vertices_least)) (omega (arith, S.limits.vertices_most)) (omega (arith, S.limits.edges_least)) (omega (arith, S.limits.edges_most))
-        (last_unused t t_sized S.limits.edges_most k k_in S.limits.edges_least t_unused)
+        limited_sound s' (row s) (deleted_plane P (deleted (row s)) (walks_with s' (row s) (omega (arith, S.limits.edges_most))) rises)
+        (omega (arith, S.limits)) (last_unused t t_sized S.limits.edges_most k k_in S.limits.edges_least t_unused)
 
   deleted_sized : Sized s'
   deleted_sized = last_sized t t_sized S.limits.edges_most k k_in
@@ -203,13 +192,13 @@ take_out_edge_whole s k z e =
     let two = eqb s.edges 2 in
     let out = eqb (out_degree s (tail s k)) 1 in
     let ins = eqb (in_degree s (head s k)) 1 in
-    let d = neither (two || out) ins (passed EdgeNeeded (two || out || ins) _ c.1).0 in
-    let f = neither two out d.0 in
-    let S = (sound_law s z).0 (not-false (sound s) a.0) in
-    let k_in : k < s.edges = not_at_most s.edges k b.0 in
-    let k_other : k ≢ 0 = other_number k 0 c.0 in
-    let many = each_many (other_number (out_degree s (tail s k)) 1 f.1) (other_number (in_degree s (head s k)) 1 d.1) in
-    (deleted_sound s z S k k_in k_other (other_number s.edges 2 f.0) many, deleted_sized s z S k k_in)
+    let d = or_parts (two || out) ins (passed EdgeNeeded (two || out || ins) _ c.1).0 in
+    let f = or_parts two out d.0 in
+    let S = was_sound s z a.0 in
+    let k_in : k < s.edges = leb-false s.edges k b.0 in
+    let k_other : k ≢ 0 = eqb-false k 0 c.0 in
+    let many = each_many (eqb-false (out_degree s (tail s k)) 1 f.1) (eqb-false (in_degree s (head s k)) 1 d.1) in
+    (deleted_sound s z S k k_in k_other (eqb-false s.edges 2 f.0) many, deleted_sized s z S k k_in)
   where
     each_many : out_degree s (tail s k) ≢ 1 → in_degree s (head s k) ≢ 1 → (b : Bool) → degree s b (end_of s b k) ≢ 1
     each_many o i true = o

@@ -1,16 +1,11 @@
 -- Take out a bar keeps a sheet sound. Assumes nothing.
-use Prim.Native.Nat.{ℕ, suc, ◌-◌, ◌*◌, ◌≤◌, ◌<◌}
-use mathlib.Core.Path.{◌≡◌, sym, ◌∙◌, ap}
-use mathlib.Core.Logic.{◌≢◌, inl, inr, by_cases}
-use mathlib.Core.Bool.{Bool, true, false, not, ◌&&◌, ◌||◌, and-eq-true_iff}
-use native.Mathlib.Decide.{ℕ_discrete}
-use native.Mathlib.Omega.{arith}
-use lib.Dec.{eqb}
-use lib.ListN.{set, length-set}
-use lib.Seq.{get_or-set_same, get_or-set_other}
-use borrow.Author.Tests.{eqb-true, eq-eqb}
+use Rattle.std.proofs.Common.{ℕ, suc, ◌-◌, ◌*◌, ◌≤◌, ◌<◌, ◌≡◌, sym, ◌∙◌, ap, ◌≢◌, inl, inr, Bool, true, false, not, ◌&&◌, ◌||◌, arith, eqb, set, length-set, get_or-set_same, get_or-set_other, eqb-true, eq-eqb, leb-false}
+use Rattle.std.proofs.Math.Logic.{by_cases}
+use Rattle.std.proofs.Math.Bool.{and-eq-true_iff}
+use Rattle.std.proofs.Math.Decide.{ℕ_discrete}
+use Rattle.std.proofs.lemmas.Bool.{not-false, eqb-false, or_parts}
 use Rattle.counting.specs.Below.{lowest_below}
-use Rattle.counting.proofs.Iterate.{either, not-false}
+use Rattle.counting.proofs.Iterate.{either}
 use Rattle.planarmap.specs.Map.{Map, Bipolar, Plane}
 use Rattle.surgery.specs.Edits.{Smoothed}
 use Rattle.surgery.specs.Renumber.{exchange}
@@ -18,7 +13,7 @@ use Rattle.surgery.specs.Statements.{Rises}
 use Rattle.surgery.proofs.Grow.{not_alone, head_not_alone}
 use Rattle.surgery.proofs.Renumber.{exchange_bijection, exchange_first, exchange_second, exchange_other}
 use Rattle.surgery.proofs.Smooth.{smoothed_plane, smoothed_rises}
-use Rattle.sheet.specs.declared.Sheet.{Sheet}
+use Rattle.clauses.specs.declared.Sheet.{Sheet}
 use Rattle.clauses.specs.Darts.{tail_dart, head_dart, is_tail}
 use Rattle.sheet.specs.Darts.{Sized, tail, head, darts, vertex, next}
 use Rattle.sheet.specs.Sound.{Unused, Sound}
@@ -26,16 +21,14 @@ use Rattle.sheet.specs.Check.{sound}
 use Rattle.soundness.specs.Maps.{map_with, map_of}
 use Rattle.soundness.proofs.Darts.{dart, dart_kind, dart_below, each_dart, by_dart, dart_opposite, dart_vertex}
 use Rattle.soundness.proofs.Plane.{plane_of}
-use Rattle.soundness.proofs.Law.{sound_law}
+use Rattle.soundness.proofs.Law.{was_sound}
 use Rattle.answers.specs.declared.Refusal.TheVariants.{NotSound, NotInSheet, VertexNeeded}
 use Rattle.answers.specs.Answers.{refusal_number}
 use Rattle.edit.specs.Changes.{renamed, replace_dart, last_edge_to, last_vertex_to, incoming_edge, outgoing_edge, take_out_vertex}
 use Rattle.edit.specs.Calls.{no_vertex, out_degree, in_degree, take_out_vertex_answer}
 use Rattle.preservation.specs.Laws.{TakeOutVertexWhole}
-use Rattle.preservation.proofs.Maps.{walks_with}
-use Rattle.preservation.proofs.Fewer.{fewer_sound}
+use Rattle.preservation.proofs.Maps.{walks_with, limited_sound}
 use Rattle.answers.proofs.Refusals.{passed}
-use Rattle.preservation.proofs.Accepted.{neither, other_number, not_at_most}
 use Rattle.preservation.proofs.Places.{renamed_old, renamed_other, replace_size, replace_new, replace_at, replace_zero}
 use Rattle.preservation.proofs.Exchange.{swap, swap_back, swap_below, swap_from, swap_first, swap_second, swap_low, swap_not, exchanged, exchanged_plane, exchanged_grown}
 use Rattle.preservation.proofs.LastEdge.{last_edges, last_vertices, last_vertex, last_next, last_sized, last_unused}
@@ -313,8 +306,8 @@ module _ (s : Sheet) (z : Sized s) (S : Sound s) (v : ℕ) (v_in : v < s.vertice
   smoothed_sound =
       let e = edges_fewer in
       let f = vertices_fewer in
-      fewer_sound s' rows (smoothed_plane P (smoothed rows) (walks_with s' rows (omega (arith, S.limits.edges_most))) rises)
-      (omega arith) (omega (arith, S.limits.vertices_most)) (omega (arith, three_edges)) (omega (arith, S.limits.edges_most)) unused
+      limited_sound s' rows (smoothed_plane P (smoothed rows) (walks_with s' rows (omega (arith, S.limits.edges_most))) rises)
+      (omega (arith, S.limits, three_edges)) unused
 
 -- an accepted call was not refused for anything
 pub take_out_vertex_whole : TakeOutVertexWhole
@@ -324,14 +317,14 @@ take_out_vertex_whole s v z e =
     let c = passed NotInSheet (no_vertex s v) _ a.1 in
     let ins = eqb (in_degree s v) 1 in
     let out = eqb (out_degree s v) 1 in
-    let d = neither (eqb v 0 || eqb v 1) (not (ins && out)) (passed VertexNeeded (eqb v 0 || eqb v 1 || not (ins && out)) _ c.1).0 in
-    let f = neither (eqb v 0) (eqb v 1) d.0 in
+    let d = or_parts (eqb v 0 || eqb v 1) (not (ins && out)) (passed VertexNeeded (eqb v 0 || eqb v 1 || not (ins && out)) _ c.1).0 in
+    let f = or_parts (eqb v 0) (eqb v 1) d.0 in
     let g = (and-eq-true_iff ins out).0 (not-false (ins && out) d.1) in
-    let S = (sound_law s z).0 (not-false (sound s) a.0) in
-    let v_in : v < s.vertices = not_at_most s.vertices v c.0 in
+    let S = was_sound s z a.0 in
+    let v_in : v < s.vertices = leb-false s.vertices v c.0 in
     let one = each_one (eqb-true (out_degree s v) 1 g.1) (eqb-true (in_degree s v) 1 g.0) in
-    let not_source = other_number v 0 f.0 in
-    let not_sink = other_number v 1 f.1 in
+    let not_source = eqb-false v 0 f.0 in
+    let not_sink = eqb-false v 1 f.1 in
     (smoothed_sound s z S v v_in not_source not_sink one, smoothed_sized s z S v v_in not_source not_sink one)
   where
     each_one : out_degree s v ≡ 1 → in_degree s v ≡ 1 → (b : Bool) → degree s b v ≡ 1

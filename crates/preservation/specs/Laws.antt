@@ -1,7 +1,7 @@
 -- Every accepted edit of a sound sheet gives a sound sheet.
 use Rattle.std.specs.Prelude.{ℕ, ◌<◌, ◌≡◌, ◌↔◌, true, Ok}
 use Rattle.counting.specs.Paths.{Path}
-use Rattle.sheet.specs.declared.Sheet.{Sheet}
+use Rattle.clauses.specs.declared.Sheet.{Sheet}
 use Rattle.sheet.specs.Darts.{Sized}
 use Rattle.sheet.specs.Sound.{Leads, Sound}
 use Rattle.edit.specs.Reaching.{leads_to}

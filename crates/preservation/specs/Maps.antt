@@ -1,6 +1,6 @@
 -- The clauses of soundness that speak of numbers alone.
 use Rattle.std.specs.Prelude.{ℕ, ◌<◌}
-use Rattle.sheet.specs.declared.Sheet.{Sheet}
+use Rattle.clauses.specs.declared.Sheet.{Sheet}
 use Rattle.sheet.specs.Sound.{Limits, Joins, Unused}
 
 -- limits, edges and unused entries

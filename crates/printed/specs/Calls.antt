@@ -1,6 +1,6 @@
 -- The calls that an input of `plate` makes.
 use Rattle.std.specs.Prelude.{ℕ, zero, suc, List, [], ◌∷◌, ◌++◌, length, drop}
-use Rattle.sheet.specs.declared.Sheet.{Sheet}
+use Rattle.clauses.specs.declared.Sheet.{Sheet}
 use Rattle.sheet.specs.Fresh.{fresh_sheet}
 use Rattle.load.specs.Load.{load, returned}
 use Rattle.edit.specs.declared.Edit.{Edit}

@@ -1,13 +1,5 @@
 -- Every sheet on the way is sound, and no output is longer than the bound. Assumes nothing.
-use Rattle.std.specs.Prelude.{Result, Ok, Err}
-use Prim.Native.Nat.{ℕ, zero, suc, ◌+◌, ◌*◌, ◌≤◌}
-use mathlib.Core.Path.{◌≡◌, refl, ap, ◌∙◌}
-use mathlib.Core.Bool.{true}
-use mathlib.Core.List.{List, [], ◌∷◌}
-use native.Mathlib.Omega.{arith}
-use lib.Dec.{leb, ltb}
-use lib.ListN.{length, drop, length-append, length-drop}
-use borrow.Author.Tests.{leb-true, lt-ltb}
+use Rattle.std.proofs.Common.{Result, Ok, Err, ℕ, zero, suc, ◌+◌, ◌*◌, ◌≤◌, ◌≡◌, refl, ap, ◌∙◌, true, List, [], ◌∷◌, arith, leb, ltb, length, drop, length-append, length-drop, leb-true, lt-ltb}
 use Rattle.counting.proofs.Iterate.{by_bool}
 use Rattle.text.specs.Written.{decimal, separated, line}
 use Rattle.answers.specs.declared.Refusal.{Refusal}
@@ -15,7 +7,7 @@ use Rattle.answers.specs.declared.Refusal.TheVariants.{InputTooLong}
 use Rattle.answers.specs.Answers.{Answer, refusal_number}
 use Rattle.answers.specs.Refusals.{answering}
 use Rattle.answers.proofs.Refusals.{refusal_within}
-use Rattle.sheet.specs.declared.Sheet.{Sheet}
+use Rattle.clauses.specs.declared.Sheet.{Sheet}
 use Rattle.sheet.specs.Check.{sound}
 use Rattle.soundness.proofs.Clauses.{limits_law}
 use Rattle.soundness.proofs.Judge.{passed_says}

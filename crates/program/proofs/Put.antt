@@ -1,17 +1,11 @@
 -- What is put into the buffer. Assumes nothing.
-use Rattle.std.specs.Prelude.{Result, Ok}
-use Prim.Native.Nat.{ℕ, ◌+◌, ◌-◌, ◌≤◌}
-use mathlib.Core.Path.{◌≡◌, refl, sym, ap, ◌∙◌}
-use mathlib.Core.List.{List, [], ◌∷◌, ◌++◌, append-nil, append_assoc}
-use native.Mathlib.Nat.{zero-add}
-use native.Mathlib.Omega.{arith}
-use lib.ListN.{length, take, drop, length-drop, drop_of_length-le}
-use lib.Seq.{sets, sets-eq, take_all, drop-drop}
+use Rattle.std.proofs.Common.{Result, Ok, ℕ, ◌+◌, ◌-◌, ◌≤◌, ◌≡◌, refl, sym, ap, ◌∙◌, List, [], ◌∷◌, ◌++◌, append-nil, append_assoc, zero-add, arith, length, take, drop, length-drop, drop_of_length-le, take_all, drop-drop}
+use Rattle.std.proofs.Math.Seq.{sets, sets-eq}
 use Rattle.text.specs.Bytes.{bytes}
 use Rattle.text.specs.Written.{line}
 use Rattle.answers.specs.declared.Refusal.{Refusal}
 use Rattle.answers.specs.Answers.{refusal_number}
-use Rattle.sheet.specs.declared.Sheet.{Sheet}
+use Rattle.clauses.specs.declared.Sheet.{Sheet}
 use Rattle.writesheet.proofs.Outcomes.{Outcome, text_put}
 use Rattle.preservation.specs.Laws.{Whole}
 use Rattle.drawing.specs.Write.{drawing_text_of, write_drawing, buffer_after_drawing}
@@ -42,8 +36,11 @@ module _ (s : Sheet) (w : Whole s) (out : List ℕ) (at : ℕ) (room : at + leng
   drawn : Outcome s (drawing_text_of s) (drop at out) (Ok (length (drawing_text_of s))) (sets (drop at out) 0 (drawing_text_of s))
   drawn = text_put s (drawing_text_of s) (drop at out) (whole_sound w) (omega (arith, length-drop at out)) (length (drawing_text_of s)) refl (sets (drop at out) 0 (drawing_text_of s)) refl
 
-  pub drawing_count : (r : Result ℕ Refusal) → r ≡ write_drawing s (take (length out - at) (drop at out)) → r ≡ Ok (length (drawing_text_of s))
-  drawing_count r e = rw (rest_part out at) at e ∙ sym drawn.0
+  pub drawing_fits : (r : Result ℕ Refusal) → r ≡ write_drawing s (take (length out - at) (drop at out)) → r ≡ Ok (length (drawing_text_of s))
+  drawing_fits r e = rw (rest_part out at) at e ∙ sym drawn.0
+
+  pub drawing_count : (r : Result ℕ Refusal) → r ≡ write_drawing s (take (length out - at) (drop at out)) → (count : ℕ) → r ≡ Ok count → count ≡ length (drawing_text_of s)
+  drawing_count r e count q = let z = drawing_fits r e in cc
 
   pub drawing_left : (after : List ℕ) → after ≡ buffer_after_drawing s (take (length out - at) (drop at out))
       → take at out ++ (after ++ drop (length out - at) (drop at out)) ≡ sets out at (drawing_text_of s)

@@ -3,7 +3,7 @@ use Rattle.std.specs.Prelude.{ℕ, zero, suc, ◌+◌, ◌*◌, List, [], ◌∷
 use Rattle.text.specs.Bytes.{bytes}
 use Rattle.counting.specs.Choice.{pick}
 use Rattle.text.specs.Written.{line}
-use Rattle.sheet.specs.declared.Sheet.{Sheet}
+use Rattle.clauses.specs.declared.Sheet.{Sheet}
 use Rattle.answers.specs.declared.Refusal.{Refusal}
 use Rattle.answers.specs.declared.Refusal.TheVariants.{BufferTooShort, InputTooLong}
 use Rattle.answers.specs.Answers.{Answer, refusal_number}

@@ -1,4 +1,5 @@
 // Put in.
+// Narrowing is by `as`: there is no `From` for it, and `TryFrom` would have a failing branch where the contracts show that the number fits.
 #![tactic(auto)]
 
 ghost use Rattle.std.specs.Prelude.{◌≡◌, ◌<◌};
@@ -6,35 +7,35 @@ ghost use Rattle.edit.specs.Changes.{put_in};
 ghost use Rattle.edit.specs.Calls.{put_in_answer, put_in_call};
 
 use answers::Refusal;
+use clauses::{head_dart, tail_dart};
 use sheet::Sheet;
 
 // The sheet with a new vertex in edge k.
+#[tactic(auto, unfolding(edit::specs::Changes::put_in))]
 fn split_edge(s: Sheet, k: usize) -> Sheet
     requires { (k < s.edges) × (s.vertices < 128) × (s.edges < 256) }
     ensures { result ≡ put_in s k }
 {
     let n = s.vertices;
     let m = s.edges;
-    let mut tails = s.tails;
-    tails[m] = n as u16;
-    let mut heads = s.heads;
-    heads[m] = heads[k];
-    heads[k] = n as u16;
-    let mut nexts = s.nexts;
-    splice::replace_dart(&mut nexts, (2 * k + 1) as u16, (2 * m + 1) as u16);
-    nexts[2 * k + 1] = (2 * m) as u16;
-    nexts[2 * m] = (2 * k + 1) as u16;
-    Sheet {
+    let mut made = Sheet {
         vertices: n + 1,
         edges: m + 1,
-        tails,
-        heads,
-        nexts,
-    }
+        ..s
+    };
+    made.tails[m] = n as u16;
+    made.heads[m] = made.heads[k];
+    made.heads[k] = n as u16;
+    let end = head_dart(k);
+    let start = tail_dart(m);
+    splice::replace_dart(&mut made.nexts, end, head_dart(m));
+    made.nexts[usize::from(end)] = start;
+    made.nexts[usize::from(start)] = end;
+    made
 }
 
 // What put in refuses, in order.
-#[tactic(auto, using(crate::proofs::PutIn::answers))]
+#[tactic(auto, unfolding(answers::specs::Refusals::first, edit::specs::Calls::put_in_answer))]
 fn put_in_answer(s: Sheet, k: usize) -> Result<(), Refusal>
     ensures { result ≡ put_in_answer s k }
 {
@@ -57,6 +58,7 @@ fn put_in_answer(s: Sheet, k: usize) -> Result<(), Refusal>
 }
 
 // Put in: vertex n is new; edge k now ends there, edge m goes from there to the old head and takes k's place in its ring.
+#[tactic(auto, using(preservation::proofs::PutIn::put_in_given), unfolding(answers::specs::Refusals::answering))]
 pub fn put_in(s: Sheet, k: usize) -> Result<Sheet, Refusal>
     ensures { result ≡ put_in_call s k }
 {

@@ -1,10 +1,6 @@
 -- Every list of calls has an encoding. Assumes nothing.
-use Prim.Native.Nat.{ℕ, ◌+◌, ◌*◌, ◌^◌, ◌<◌}
-use mathlib.Core.Path.{◌≡◌, refl, sym, ◌∙◌, ap, ap₂}
-use mathlib.Core.List.{List, [], ◌∷◌, ◌++◌, append_assoc}
-use native.Mathlib.Omega.{arith}
-use lib.ListN.{length, length-append, drop}
-use lib.Seq.{slice, take-append-add, take-append_seam, drop-append_seam}
+use Rattle.std.proofs.Common.{ℕ, ◌+◌, ◌*◌, ◌^◌, ◌<◌, ◌≡◌, refl, sym, ◌∙◌, ap, ap₂, List, [], ◌∷◌, ◌++◌, append_assoc, arith, length, length-append, drop}
+use Rattle.std.proofs.Math.Seq.{slice, take-append-add, take-append_seam, drop-append_seam}
 use Rattle.demand.specs.Calls.{Call}
 use Rattle.demand.specs.Calls.Call.{LoadText, PutIn, RunEdge, TakeOutEdge, TakeOutVertex}
 use Rattle.replay.specs.Encoded.{call_by, calls_of}

@@ -1,3 +1,4 @@
 pub mod Encodings
 pub mod Parts
+pub mod OtherKind
 pub mod Turns

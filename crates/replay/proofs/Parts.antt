@@ -1,13 +1,10 @@
 -- A part of a text, numbers that are no call, and the answers that are put. Assumes nothing.
-use Prim.Native.Nat.{ℕ, ◌+◌, ◌-◌, ◌*◌, ◌≤◌, ◌<◌, min}
-use mathlib.Core.Path.{◌≡◌, refl, sym, ◌∙◌, ap}
-use mathlib.Core.Logic.{by_cases}
-use mathlib.Core.List.{List, [], ◌∷◌, ◌++◌, append_assoc}
-use native.Mathlib.Decide.{dec_le}
-use native.Mathlib.Omega.{arith}
-use lib.ListN.{get_or, set, take, drop, length, length-append, drop_of_length-le}
-use lib.Seq.{slice, take_all, take-add, drop_at, length-take-le, set_at, append_snoc}
-use borrow.Author.Tests.{le-leb, lt-leb}
+use Rattle.std.proofs.Common.{ℕ, zero, suc, ◌+◌, ◌-◌, ◌*◌, ◌/◌, ◌≤◌, ◌<◌, min, ◌≡◌, refl, sym, ◌∙◌, ap, List, [], ◌∷◌, ◌++◌, append_assoc, arith, get_or, set, take, drop, length, length-append, length-drop, drop_of_length-le, take_all, take-add, drop_at, drop-drop, length-take-le, le-leb}
+use Rattle.std.specs.Simd.{first_chunks}
+use Rattle.std.proofs.Math.Logic.{by_cases}
+use Rattle.std.proofs.Math.Decide.{dec_le}
+use Rattle.std.proofs.Math.Seq.{slice, set_at, append_snoc}
+use Rattle.std.proofs.lemmas.Bool.{lt-leb}
 use Rattle.demand.specs.Calls.{Outcome}
 use Rattle.replay.specs.Encoded.{calls_of}
 use Rattle.replay.specs.Replayed.{answers_put}
@@ -51,14 +48,28 @@ short text (_ ∷ _ ∷ _ ∷ []) h = refl
 short text (_ ∷ _ ∷ _ ∷ _ ∷ []) h = refl
 short text (_ ∷ _ ∷ _ ∷ _ ∷ _ ∷ l) h = absurd (omega arith)
 
+-- call i's five numbers
+chunk_at : (k i : ℕ) (l : List ℕ) → i < k → get_or (first_chunks 5 k l) i [] ≡ take 5 (drop (5 * i) l)
+chunk_at zero i l h = absurd (omega arith)
+chunk_at (suc k) zero l h = refl
+chunk_at (suc k) (suc i) l h = let e : 5 + 5 * i ≡ 5 * suc i = omega arith in chunk_at k i (drop 5 l) (omega arith) ∙ ap (take 5) (drop-drop (5 * i) 5 l ∙ ap (λ n. drop n l) e)
+
+front : (l : List ℕ) → 5 ≤ length l → l ≡ get_or (take 5 l) 0 0 ∷ get_or (take 5 l) 1 0 ∷ get_or (take 5 l) 2 0 ∷ get_or (take 5 l) 3 0 ∷ get_or (take 5 l) 4 0 ∷ drop 5 l
+front [] h = absurd (omega arith)
+front (_ ∷ []) h = absurd (omega arith)
+front (_ ∷ _ ∷ []) h = absurd (omega arith)
+front (_ ∷ _ ∷ _ ∷ []) h = absurd (omega arith)
+front (_ ∷ _ ∷ _ ∷ _ ∷ []) h = absurd (omega arith)
+front (a ∷ b ∷ c ∷ d ∷ e ∷ l) h = refl
+
 -- five numbers and the rest
-pub five : (l : List ℕ) → 5 ≤ length l → l ≡ get_or l 0 0 ∷ get_or l 1 0 ∷ get_or l 2 0 ∷ get_or l 3 0 ∷ get_or l 4 0 ∷ take (length l - 5) (drop 5 l)
-five [] h = absurd (omega arith)
-five (_ ∷ []) h = absurd (omega arith)
-five (_ ∷ _ ∷ []) h = absurd (omega arith)
-five (_ ∷ _ ∷ _ ∷ []) h = absurd (omega arith)
-five (_ ∷ _ ∷ _ ∷ _ ∷ []) h = absurd (omega arith)
-five (a ∷ b ∷ c ∷ d ∷ e ∷ l) h = ap (λ r. a ∷ b ∷ c ∷ d ∷ e ∷ r) (sym (take_all (length (a ∷ b ∷ c ∷ d ∷ e ∷ l) - 5) l (omega arith)))
+pub five : (numbers : List ℕ) (chunks : List (List ℕ)) (i : ℕ) → chunks ≡ first_chunks 5 (length numbers / 5) numbers → i < length chunks → length chunks ≡ length numbers / 5
+    → let call = get_or chunks i [] in drop (5 * i) numbers ≡ get_or call 0 0 ∷ get_or call 1 0 ∷ get_or call 2 0 ∷ get_or call 3 0 ∷ get_or call 4 0 ∷ drop (5 * (i + 1)) numbers
+five numbers chunks i e h n =
+    let next : 5 * i + 5 ≡ 5 * (i + 1) = omega arith in
+    let call : get_or chunks i [] ≡ take 5 (drop (5 * i) numbers) = ap (λ (l : List (List ℕ)). get_or l i []) e ∙ chunk_at (length numbers / 5) i numbers (omega arith) in
+    let more : drop 5 (drop (5 * i) numbers) ≡ drop (5 * (i + 1)) numbers = drop-drop 5 (5 * i) numbers ∙ ap (λ n. drop n numbers) next in
+    rw (call, ← more) (front (drop (5 * i) numbers) (omega (arith, length-drop (5 * i) numbers)))
 
 -- ---- the answers that are put
 

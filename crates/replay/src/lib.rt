@@ -1,21 +1,23 @@
 // A list of calls from the fresh sheet: what each answers, and the drawing of the sheet that they leave.
 #![tactic(auto)]
 
-ghost use Rattle.std.specs.Prelude.{◌≡◌, ◌<◌, min};
+ghost use Rattle.std.specs.Prelude.{◌≡◌, true};
 ghost use Rattle.std.proofs.Math.Seq.{slice};
 ghost use Rattle.answers.specs.Answers.{answer_number};
+ghost use Rattle.sheet.specs.Check.{sound};
 ghost use Rattle.load.specs.Load.{load, returned};
 ghost use Rattle.demand.specs.Calls.{of_edit, outcome};
 ghost use Rattle.replay.specs.Encoded.{call_by, calls_of};
 ghost use Rattle.replay.specs.Replayed.{Replayed};
-ghost use Rattle.replay.specs.Inner.{reply_of, pair_put};
+ghost use Rattle.replay.specs.Inner.{reply_of};
 
 use answers::Refusal;
 use drawing::Drawing;
 use load::Loaded;
 use sheet::Sheet;
 
-// What a call answers: 0 or its refusal number, the sheet that it returns, and the bytes that it took.
+// What a call answers: 0 or its refusal number, the sheet that it returns, and the bytes that it took. A number beside a value: the C interface, and demand 3's
+// words on a call, have an answer as its number.
 #[derive(Clone, Copy)]
 struct Reply {
     number: usize,
@@ -23,7 +25,7 @@ struct Reply {
     taken: usize,
 }
 
-// Loads the part of the text from a start up to an end.
+// Loads the part of the text from a start up to an end, the two numbers by which the C interface names it.
 fn load_part(text: &[u8], start: usize, end: usize) -> Result<Loaded, Refusal>
     ensures { result ≡ load (slice start end text.now) }
 {
@@ -56,12 +58,11 @@ fn of_load(s: Sheet, answer: Result<Loaded, Refusal>) -> Reply
     }
 }
 
-// The number of a wire that no sheet has.
-const NO_EDGE: usize = 18446744073709551615;
-
-// One call by its kind: 0 in, 1 run, 2 out, 3 off, 4 load; any other is refused 10.
-#[tactic(auto, unfolding(crate::specs::Encoded::call_by, demand::specs::Calls::outcome))]
+// One call on a sound sheet by its kind: 0 in, 1 run, 2 out, 3 off, 4 load; any other is refused 10. The C interface names the calls by these numbers.
+// The match of the edits is not shared: an `Edit`, which `apply` matches, holds numbers of 16 bits, and the entry for one edit refuses another kind by 1.
+#[tactic(auto, using(crate::proofs::OtherKind::no_such_edge), unfolding(crate::specs::Encoded::call_by, demand::specs::Calls::outcome))]
 fn step(kind: usize, a: usize, p: usize, b: usize, q: usize, text: &[u8], s: Sheet) -> Reply
+    requires { sound s ≡ true }
     ensures { result ≡ reply_of (outcome s (call_by kind a p b q text.now)) }
 {
     match kind {
@@ -70,19 +71,7 @@ fn step(kind: usize, a: usize, p: usize, b: usize, q: usize, text: &[u8], s: She
         2 => of_edit(s, takeoutedge::take_out_edge(s, a)),
         3 => of_edit(s, takeoutvertex::take_out_vertex(s, a)),
         4 => of_load(s, load_part(text, a, p)),
-        _ => of_edit(s, putin::put_in(s, NO_EDGE)),
-    }
-}
-
-// Puts two numbers as pair i, if there is one.
-fn put_pair(answers: &mut [usize], i: usize, x: usize, y: usize)
-    requires { i < 4611686018427387904 }
-    ensures { answers.new ≡ pair_put i x y answers.old }
-{
-    let k = 2 * i;
-    if k + 2 <= answers.len() {
-        answers[k] = x;
-        answers[k + 1] = y;
+        _ => of_edit(s, Err(Refusal::NotInSheet)),
     }
 }
 
@@ -91,14 +80,15 @@ pub fn replay(calls: &[usize], text: &[u8], answers: &mut [usize]) -> Drawing
     ensures { Replayed (calls_of calls.now text.now) answers.old result answers.new }
 {
     let mut s = sheet::fresh();
-    let mut i = 0;
-    let mut left = calls;
-    while let [kind, a, p, b, q, rest @ ..] = left {
-        let reply = step(*kind, *a, *p, *b, *q, text, s);
-        put_pair(answers, i, reply.number, reply.taken);
+    for (i, call) in calls.as_chunks::<5>().0.iter().enumerate() {
+        let [kind, a, p, b, q] = *call;
+        let reply = step(kind, a, p, b, q, text, s);
         s = reply.sheet;
-        i += 1;
-        left = rest;
+        // By place: tried with a slice that the loop moves, and with `get_mut`; the proof did not close, as it sees no write through either.
+        if 2 * i + 2 <= answers.len() {
+            answers[2 * i] = reply.number;
+            answers[2 * i + 1] = reply.taken;
+        }
     }
     draw::returned(draw::draw(s))
 }

@@ -7,9 +7,9 @@ use Rattle.digraph.specs.Digraph.{Within, flat}
 use Rattle.digraph.specs.Relaxed.{found}
 use Rattle.digraph.specs.declared.Sorting.{Sorting}
 use Rattle.rings.specs.declared.Darts.{Darts}
-use Rattle.digraph.specs.Inner.{Waiting, Queued, ready, Settled}
+use Rattle.digraph.specs.Inner.{Ends, Waiting, Queued, ready, Settled}
 use Rattle.digraph.proofs.Settling.{start, outcome}
-use Rattle.clauses.specs.Inner.{Ends, dart_table, vertex_of}
+use Rattle.clauses.specs.Inner.{dart_table, vertex_of}
 use Rattle.clauses.proofs.Below.{dart_at_law}
 use Rattle.clauses.proofs.Tables.{tail_vertex, head_vertex}
 use Rattle.rings.specs.Inner.{OneRingEach, Held, Degrees, Covered, Placed, Underway, PassedOn, rings_of, ring_levels}

@@ -1,13 +1,14 @@
 -- One ring at each vertex: the ring of one dart of each has as many darts as the vertex, all at it. Assumes nothing.
-use Rattle.std.proofs.Common.{ℕ, zero, suc, ◌+◌, ◌-◌, ◌≤◌, ◌<◌, ◌≡◌, refl, sym, ap, ◌∙◌, ◌≢◌, Bool, true, false, not, ◌&&◌, ◌||◌, List, add-one, arith, eq-eqb, ne_eqb, eqb-true, eqb, get_or, set, length-set, replicate}
-use mathlib.Core.Logic.{by_cases}
-use native.Mathlib.Decide.{ℕ_discrete, dec_lt}
-use lib.ListN.{length-replicate, get_or-replicate}
+use Rattle.std.proofs.Common.{ℕ, zero, suc, ◌+◌, ◌-◌, ◌≤◌, ◌<◌, ◌≡◌, refl, sym, ap, ◌∙◌, ◌≢◌, true, false, not, ◌||◌, List, add-one, arith, eq-eqb, ne_eqb, eqb-true, eqb, get_or, set, length-set, replicate}
+use Rattle.std.proofs.Math.Logic.{by_cases}
+use Rattle.std.proofs.Math.Decide.{ℕ_discrete, dec_lt}
+use Rattle.std.proofs.Math.ListN.{length-replicate, get_or-replicate}
+use Rattle.std.proofs.lemmas.Bool.{and_parts}
 use Rattle.counting.specs.Below.{all_below}
-use Rattle.counting.specs.Counts.{bit, count}
+use Rattle.counting.specs.Counts.{count}
 use Rattle.counting.specs.Orbits.{Perm, iter, Reach}
-use Rattle.counting.proofs.Counts.{all, count_all, count_room, room_onto, Onto, onto_count, onto_injective}
-use Rattle.counting.proofs.Iterate.{by_bool, clash, iter_add, around}
+use Rattle.counting.proofs.Counts.{all, count_all, count_room, room_onto, Onto, onto_count, onto_injective, tally_more}
+use Rattle.counting.proofs.Iterate.{by_bool, iter_add, around}
 use Rattle.counting.proofs.Below.{all_at, all_of}
 use Rattle.counting.proofs.Reach.{iter_one_one, reach_trans, reach_sym}
 use Rattle.counting.proofs.Stores.{Stored, stored}
@@ -17,11 +18,6 @@ use Rattle.orbits.specs.Meaning.{entries, Numbering}
 use Rattle.orbits.proofs.Distinct.{permutation_law}
 use Rattle.orbits.proofs.Numbering.{traced_law}
 use Rattle.rings.specs.Inner.{ring_at, Readable, Held, Degrees, OneRingEach, Round, Covered, rings_in}
-
--- of two tests
-split : (a b : Bool) → (a && b) ≡ true → (a ≡ true) × (b ≡ true)
-split true b q = (refl, q)
-split false b q = clash q refl
 
 -- ---- a dart of each vertex
 
@@ -48,12 +44,7 @@ unfolding count
 degrees_none at = record { size = length-replicate {A = ℕ} 128 0; counts = λ v l. get_or-replicate {A = ℕ} 128 v 0 0 l }
 
 pub degrees_more : {k : ℕ} {at degree : List ℕ} → Degrees k at degree → (v : ℕ) → v ≡ get_or at k 0 → v < 128 → Degrees (k + 1) at (set degree v (get_or degree v 0 + 1))
-unfolding count
-degrees_more {k} {at} {degree} D v e b = record { size = length-set degree v _ ∙ D.size; counts = λ x l. go x l (stored degree v _ x 0 (omega (arith, D.size))) }
-  where
-    go : (x : ℕ) → x < 128 → Stored degree v (get_or degree v 0 + 1) x 0 → get_or (set degree v (get_or degree v 0 + 1)) x 0 ≡ count (λ d. eqb (get_or at d 0) x) (k + 1)
-    go x l (here p q) = rw (add-one k) (omega (arith, q, ap bit (eq-eqb (get_or at k 0) x (sym e ∙ sym p)), D.counts x l, ap (λ y. get_or degree y 0) p))
-    go x l (apart n q) = rw (add-one k) (omega (arith, q, ap bit (ne_eqb (get_or at k 0) x (λ p. n (sym p ∙ sym e))), D.counts x l))
+degrees_more {k} {at} {degree} D v e b = record { size = length-set degree v _ ∙ D.size; counts = λ x l. tally_more k at degree v e (omega (arith, D.size)) x (D.counts x l) }
 
 -- ---- once round a ring
 
@@ -207,7 +198,7 @@ module _ (n : ℕ) (at nexts : List ℕ) (fits : n ≤ 512) where
   module _ (good : rings_in n at nexts ≡ true) where
     parts : (is_permutation n nexts ≡ true) × (all_below (ring_at n at nexts (traced n nexts).orbit) n ≡ true)
     unfolding rings_in
-    parts = split _ _ good
+    parts = and_parts _ _ good
 
     P : Perm n (entries nexts)
     P = ((permutation_law n nexts).0 parts.0).1
@@ -215,7 +206,7 @@ module _ (n : ℕ) (at nexts : List ℕ) (fits : n ≤ 512) where
     both : (d : ℕ) → d < n → (eqb (get_or at (get_or nexts d 0) 0) (get_or at d 0) ≡ true)
         × (all_below (λ e. not (eqb (get_or at d 0) (get_or at e 0)) || eqb (get_or (traced n nexts).orbit d 0) (get_or (traced n nexts).orbit e 0)) n ≡ true)
     unfolding ring_at
-    both d l = split _ _ (all_at (ring_at n at nexts (traced n nexts).orbit) n parts.1 d l)
+    both d l = and_parts _ _ (all_at (ring_at n at nexts (traced n nexts).orbit) n parts.1 d l)
 
     in_one : (d e : ℕ) → d < n → e < n → get_or at d 0 ≡ get_or at e 0 → get_or (traced n nexts).orbit d 0 ≡ get_or (traced n nexts).orbit e 0
     in_one d e i j q =

@@ -1,9 +1,9 @@
 -- A walk round one vertex passes the edges out of it. Assumes nothing.
 use Rattle.std.proofs.Common.{ℕ, suc, ◌+◌, ◌*◌, ◌/◌, ◌%◌, ◌≤◌, ◌<◌, ◌≡◌, refl, sym, ap, ◌∙◌, ◌≢◌, ◌⊎◌, inl, inr, Bool, true, false, not, true≢false, List, arith, eq-eqb, eqb-true, eqb, get_or, get_or-set_other}
-use mathlib.Core.Logic.{by_cases}
-use mathlib.Core.Bool.{beq, false≢true}
-use native.Mathlib.Decide.{ℕ_discrete}
-use borrow.Author.Tests.{eqb-false}
+use Rattle.std.proofs.Math.Logic.{by_cases}
+use Rattle.std.proofs.lemmas.Bool.{false≢true, eqb-false}
+use Rattle.std.proofs.Math.Bool.{beq}
+use Rattle.std.proofs.Math.Decide.{ℕ_discrete}
 use Rattle.counting.specs.Counts.{count}
 use Rattle.counting.specs.Orbits.{iter}
 use Rattle.counting.proofs.Counts.{count_le, count_without, count_onto}
@@ -184,8 +184,8 @@ module _ {r : Darts} {head : ℕ} {s : Sorting} (U : Underway r head s) (h : hea
             rw (es, ← e) (U.held_in.some d l)
 
         -- each step puts at most one vertex in the queue
-        pub end_in : {steps end : ℕ} → steps ≤ size → end < s.end + steps → end ≤ 1024
-        end_in l t = omega (arith, end_small, size_is, count_le (λ d. eqb (get_or r.at d 0) v) r.count, (placed_readable U.placed).few)
+        pub tail_small : {steps end : ℕ} → steps ≤ size → end ≤ s.end + steps → end ≤ 1024
+        tail_small l t = omega (arith, end_small, size_is, count_le (λ d. eqb (get_or r.at d 0) v) r.count, (placed_readable U.placed).few)
 
         -- its ring is walked
         pub ring_passed : Round r.count r.at r.nexts.now start v size → {row : ℕ} {s' : Sorting}

@@ -1,16 +1,17 @@
 // The rings and the levels in one pass: whether the next darts of each vertex form one ring of exactly its darts, and the level of each
 // vertex. The vertices are taken in topological order, and the ring of each is walked once.
+// Narrowing is by `as`: there is no `From` for it, and `TryFrom` would have a failing branch where the contracts show that the number fits.
 #![tactic(auto)]
 
 ghost use Rattle.std.specs.Prelude.{◌≡◌, true, false, ◌+◌, ◌*◌, ◌≤◌, ◌<◌};
 ghost use Rattle.digraph.specs.Relaxed.{found};
-ghost use Rattle.digraph.specs.Inner.{Stepped};
-ghost use Rattle.clauses.specs.Inner.{Ends};
+ghost use Rattle.digraph.specs.Inner.{Ends, Stepped};
 ghost use Rattle.rings.specs.Inner.{head_of, out_of, Readable, Held, Degrees, OneRingEach, Underway, PassedOn, ring_levels};
 
+use clauses::Sheet;
 use digraph::Sorting;
 
-// The darts by their vertices: the vertex of each, and the next round its vertex; and for each vertex how many darts it has, and one of them.
+// The darts by their vertices, in fixed memory: the vertex of each, and the next round its vertex; and for each vertex how many darts it has, and one of them.
 #[derive(Clone, Copy)]
 struct Darts<'a> {
     count: usize,
@@ -80,7 +81,7 @@ impl<'a> Darts<'a> {
         true
     }
 
-    // Walks round each vertex in the queue, which grows meanwhile; returns whether all their darts form rings.
+    // Walks round each vertex in the queue, which grows meanwhile: so no `for`. Returns whether all their darts form rings.
     fn settle(&self, sorting: &mut Sorting) -> bool
         requires { Underway self.now 0 sorting.old }
         ensures rings { result ≡ true → PassedOn self.now 0 sorting.old sorting.new.end sorting.new }
@@ -97,21 +98,15 @@ impl<'a> Darts<'a> {
     }
 }
 
-// The level of each of n vertices, where the next darts of each form one ring of exactly its darts and the m edges make no circle; else none.
-pub fn levels(
-    n: usize,
-    m: usize,
-    tails: &[u16; 256],
-    heads: &[u16; 256],
-    nexts: &[u16; 512],
-) -> Option<[u16; 256]>
-    requires { (n ≤ 128) × Ends n m tails.now × Ends n m heads.now }
-    ensures { result ≡ found (ring_levels n m tails.now heads.now nexts.now) }
+// The level of each vertex, where the next darts of each form one ring of exactly its darts and the edges make no circle; else none.
+pub fn levels(s: &Sheet) -> Option<[u16; 256]>
+    requires { (s.now.vertices ≤ 128) × Ends s.now.vertices s.now.edges s.now.tails × Ends s.now.vertices s.now.edges s.now.heads }
+    ensures { result ≡ found (ring_levels s.now.vertices s.now.edges s.now.tails s.now.heads s.now.nexts) }
 {
-    let darts = Darts::of(2 * m, clauses::places(m, tails, heads), nexts);
-    let mut sorting = Sorting::start(n, m, heads);
+    let darts = Darts::of(2 * s.edges, s.places(), &s.nexts);
+    let mut sorting = Sorting::start(&s.digraph());
     if !darts.settle(&mut sorting) {
         return None;
     }
-    (n <= sorting.end).then_some(sorting.level)
+    (s.vertices <= sorting.end).then_some(sorting.level)
 }

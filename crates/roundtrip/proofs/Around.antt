@@ -1,19 +1,13 @@
 -- What the test of a bar's wires says. Assumes nothing.
-use mathlib.Core.Path.{◌≡◌, refl, sym, ◌∙◌, ap}
-use mathlib.Core.Logic.{by_cases}
-use mathlib.Core.Bool.{Bool, true, false}
-use mathlib.Core.List.{List, [], ◌∷◌}
-use Prim.Native.Nat.{ℕ, zero, suc, ◌+◌, ◌≤◌, ◌<◌}
-use native.Mathlib.Decide.{ℕ_discrete, dec_lt}
-use native.Mathlib.Omega.{arith}
-use borrow.Author.Tests.{eq-eqb, ne_eqb}
-use lib.Dec.{eqb}
-use lib.ListN.{get_or, length}
+use Rattle.std.proofs.Common.{◌≡◌, refl, sym, ◌∙◌, ap, Bool, true, false, List, [], ◌∷◌, ℕ, zero, suc, ◌+◌, ◌≤◌, ◌<◌, arith, eq-eqb, ne_eqb, eqb, get_or, length}
+use Rattle.std.proofs.Math.Logic.{by_cases}
+use Rattle.std.proofs.Math.Decide.{ℕ_discrete, dec_lt}
 use Rattle.counting.specs.Counts.{bit}
 use Rattle.counting.proofs.Iterate.{by_bool, clash}
 use Rattle.counting.proofs.Pigeonhole.{pigeonhole}
+use Rattle.counting.proofs.Counts.{bit_most}
 use Rattle.soundness.proofs.Tests.{Says, lt_says, eq_says, reworded, and_says, all_says}
-use Rattle.sheet.specs.declared.Sheet.{Sheet}
+use Rattle.clauses.specs.declared.Sheet.{Sheet}
 use Rattle.sheet.specs.Darts.{touches}
 use Rattle.load.specs.Rings.{occurrences, all_in, is_rotation}
 
@@ -36,10 +30,6 @@ unfolding occurrences
 entry k [] h = absurd (omega arith)
 entry k (w ∷ ws) h = by_cases (ℕ_discrete w k) (λ e. (zero, omega arith, e))
     (λ n. let (i, l, e) = entry k ws (omega (arith, ap bit (ne_eqb w k n))) in (suc i, omega arith, e))
-
-bit_most : (b : Bool) → bit b ≤ 1
-bit_most true = omega arith
-bit_most false = omega arith
 
 -- distinct entries occur at most once
 once_distinct : (ws : List ℕ) → ((i : ℕ) → i < length ws → occurrences (get_or ws i 0) ws ≤ 1) → Distinct ws

@@ -1,21 +1,12 @@
 -- Lists that are filled from the front. Assumes nothing.
-use mathlib.Core.Path.{◌≡◌, sym, ◌∙◌}
-use mathlib.Core.Logic.{by_cases}
-use mathlib.Core.List.{List}
-use Prim.Native.Nat.{ℕ, ◌+◌, ◌≤◌, ◌<◌}
-use native.Mathlib.Decide.{ℕ_discrete, dec_lt}
-use native.Mathlib.Omega.{arith}
-use lib.ListN.{get_or, length, set, replicate, length-set, length-replicate, get_or-replicate, get_or-eq_default}
-use lib.Seq.{get_or-set_same, get_or-set_other, ext_get_or}
+use Rattle.std.proofs.Common.{◌≡◌, sym, ◌∙◌, List, ℕ, ◌+◌, ◌≤◌, ◌<◌, arith, get_or, length, set, replicate, length-set, get_or-set_same, get_or-set_other, ext_get_or}
+use Rattle.std.proofs.Math.Logic.{by_cases}
+use Rattle.std.proofs.Math.Decide.{ℕ_discrete, dec_lt}
+use Rattle.std.proofs.Math.ListN.{length-replicate}
+use Rattle.counting.proofs.Stores.{replicate_at}
 
 abbrev pub zeros : ℕ → List ℕ
 zeros n = replicate n 0
-
-pub zeros_length : (n : ℕ) → length (zeros n) ≡ n
-zeros_length n = length-replicate n _
-
-pub zeros_each : (n i : ℕ) → ◌≡◌ {A = ℕ} (get_or (zeros n) i 0) 0
-zeros_each n i = by_cases (dec_lt i n) (λ l. get_or-replicate n i 0 0 l) (λ l. get_or-eq_default (zeros n) 0 (omega (arith, zeros_length n)))
 
 -- the entries below k are those of the whole list, the others 0
 pub record Filled (whole : List ℕ) (k : ℕ) (part : List ℕ) : Type 0 where
@@ -25,7 +16,7 @@ pub record Filled (whole : List ℕ) (k : ℕ) (part : List ℕ) : Type 0 where
 
 module _ {whole : List ℕ} where
   pub filled_none : {n : ℕ} → length whole ≡ n → Filled whole 0 (zeros n)
-  filled_none {n} e = record { sized = zeros_length n ∙ sym e; front = λ i h. absurd (omega arith); rest = λ i h. zeros_each n i }
+  filled_none {n} e = record { sized = length-replicate n 0 ∙ sym e; front = λ i h. absurd (omega arith); rest = λ i h. replicate_at 0 n i }
 
   pub filled_more : {k : ℕ} {part : List ℕ} → k < length whole → Filled whole k part → Filled whole (k + 1) (set part k (get_or whole k 0))
   filled_more {k} {part} l F = record {

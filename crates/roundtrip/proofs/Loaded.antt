@@ -1,28 +1,23 @@
 -- What load accepts is sound. Assumes nothing.
-use Rattle.std.specs.Prelude.{Ok, Err}
-use mathlib.Core.Path.{◌≡◌, refl, ◌∙◌, subst}
-use mathlib.Core.Logic.{◌≢◌, by_cases}
-use mathlib.Core.Bool.{Bool, true, false, not, ◌&&◌}
-use mathlib.Core.List.{List, [], ◌∷◌, ◌++◌}
-use Prim.Native.Nat.{ℕ, zero, suc, ◌+◌, ◌≤◌, ◌<◌}
-use native.Mathlib.Decide.{ℕ_discrete}
-use native.Mathlib.Omega.{arith}
-use lib.Dec.{eqb, ltb, leb}
-use lib.ListN.{get_or, length, set, length-set, length-append, get_or-append}
-use lib.Seq.{get_or-set_same, get_or-set_other, get_or_at}
+use Rattle.std.proofs.Common.{Ok, Err, ◌≡◌, refl, ◌∙◌, subst, ◌≢◌, Bool, true, false, ◌&&◌, List, [], ◌∷◌, ◌++◌, ℕ, zero, suc, ◌+◌, ◌≤◌, ◌<◌, arith, leb, get_or, length, set, length-set, length-append, get_or-set_same, get_or-set_other}
+use Rattle.std.proofs.Math.Logic.{by_cases}
+use Rattle.std.proofs.Math.Decide.{ℕ_discrete}
+use Rattle.std.proofs.Math.ListN.{get_or-append, length-replicate}
+use Rattle.std.proofs.Math.Seq.{get_or_at}
 use Rattle.clauses.specs.Darts.{touches_of, dart_of}
 use Rattle.counting.specs.Choice.{pick}
+use Rattle.counting.proofs.Stores.{replicate_at}
 use Rattle.text.specs.Reading.{line_at}
 use Rattle.layout.proofs.Shapes.{line_reads, one_shaped, two_shaped, some_shaped}
-use Rattle.sheet.specs.declared.Sheet.{Sheet}
+use Rattle.clauses.specs.declared.Sheet.{Sheet}
 use Rattle.answers.specs.Answers.{Answer}
 use Rattle.answers.specs.Refusals.{answering}
 use Rattle.sheet.specs.Darts.{Sized, tail, head, darts, next}
 use Rattle.sheet.specs.Sound.{Limits, Joins, Sound}
 use Rattle.sheet.specs.Check.{judge}
-use Rattle.soundness.proofs.Tests.{Says, lt_says, le_says, eq_says, and_says, not_says}
+use Rattle.soundness.proofs.Tests.{le_says, and_says}
 use Rattle.soundness.specs.Laws.{Lined}
-use Rattle.soundness.proofs.Clauses.{limits_law, joined_law, unused_law}
+use Rattle.soundness.proofs.Clauses.{limits_law, joined_law, unused_law, edge_says}
 use Rattle.soundness.proofs.Rings.{rings_law}
 use Rattle.soundness.proofs.Judge.{judge_law}
 use Rattle.soundness.proofs.Law.{sound_law}
@@ -30,7 +25,6 @@ use Rattle.load.specs.Rings.{is_rotation, link_ring}
 use Rattle.text.specs.Keys.{bars_key, wires_key, wire_key, around_key}
 use Rattle.load.specs.Load.{Parsed, empty_sheet, with_edge, with_nexts, judged, ring_lines, edge_lines, with_count, load}
 use Rattle.roundtrip.specs.Laws.{LoadedSound}
-use Rattle.roundtrip.proofs.Entries.{zeros_length, zeros_each}
 use Rattle.roundtrip.proofs.Around.{Around, around_law}
 use Rattle.soundness.proofs.Ends.{at_below}
 use Rattle.roundtrip.proofs.Linking.{link_length, link_anew, link_other}
@@ -56,9 +50,6 @@ pub record Edged (s : Sheet) (k : ℕ) : Type 0 where
   pub tails : (i : ℕ) → k ≤ i → tail s i ≡ 0
   pub heads : (i : ℕ) → k ≤ i → head s i ≡ 0
   pub nexts : (d : ℕ) → next s d ≡ 0
-
-pub edge_says : (s : Sheet) (a b : ℕ) → Says (ltb a s.vertices && ltb b s.vertices && not (eqb a b)) (((a < s.vertices) × (b < s.vertices)) × (a ≢ b))
-edge_says s a b = and_says (and_says (lt_says a s.vertices) (lt_says b s.vertices)) (not_says (eq_says a b))
 
 pub edge_read : (s : Sheet) (k a b : ℕ) → Edged s k → k < s.edges → a < s.vertices → b < s.vertices → a ≢ b → Edged (with_edge s k a b) (k + 1)
 unfolding with_edge
@@ -172,11 +163,11 @@ pub empty_read : (n m : ℕ) → 2 ≤ n → n ≤ 128 → 2 ≤ m → m ≤ 256
 unfolding empty_sheet
 empty_read n m a b c d = record {
   limits = omega arith;
-  sized = record { tails = zeros_length 256; heads = zeros_length 256; nexts = zeros_length 512 };
+  sized = record { tails = length-replicate {A = ℕ} 256 0; heads = length-replicate {A = ℕ} 256 0; nexts = length-replicate {A = ℕ} 512 0 };
   joins = λ i h. absurd (omega arith);
-  tails = λ i h. zeros_each 256 i;
-  heads = λ i h. zeros_each 256 i;
-  nexts = zeros_each 512;
+  tails = λ i h. replicate_at 0 256 i;
+  heads = λ i h. replicate_at 0 256 i;
+  nexts = replicate_at 0 512;
 }
 
 count_good : (key text : List ℕ) (at most : ℕ) (good : ℕ → ℕ → Parsed) → ((n next : ℕ) → 2 ≤ n → n ≤ most → Good (good n next)) → Good (with_count (line_at key text at) most good)

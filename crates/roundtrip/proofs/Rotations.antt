@@ -1,56 +1,23 @@
 -- The wires of a bar as write sheet lists them: of a sound sheet they are the bar's wires, each once, and linking them gives its next-ends. Assumes nothing.
-use mathlib.Core.Path.{◌≡◌, refl, sym, ◌∙◌, ap, subst}
-use mathlib.Core.Logic.{◌≢◌, ◌⊎◌, inl, inr, by_cases}
-use mathlib.Core.Bool.{Bool, true, false, cond}
-use mathlib.Core.List.{List, [], ◌∷◌, ◌++◌}
-use Prim.Native.Nat.{ℕ, zero, suc, ◌/◌, ◌≤◌, ◌<◌}
-use native.Mathlib.Decide.{ℕ_discrete, dec_lt}
-use native.Mathlib.Omega.{arith}
-use borrow.Author.Tests.{eqb-true, eqb-false, eq-eqb, ne_eqb}
-use lib.Dec.{eqb}
-use lib.ListN.{get_or, length}
-use Rattle.clauses.specs.Darts.{touches_of}
+use Rattle.std.proofs.Common.{◌≡◌, refl, sym, ◌∙◌, ap, subst, ◌≢◌, List, [], ◌∷◌, ◌++◌, ℕ, zero, suc, ◌/◌, ◌≤◌, ◌<◌, arith, eq-eqb, ne_eqb, get_or, length}
+use Rattle.std.proofs.Math.Decide.{ℕ_discrete}
 use Rattle.counting.specs.Below.{lowest_below}
 use Rattle.counting.specs.Orbits.{iter}
-use Rattle.counting.proofs.Iterate.{clash, iter_shift, iter_keeps}
+use Rattle.counting.proofs.Below.{lowest_found}
+use Rattle.counting.proofs.Iterate.{iter_shift, iter_keeps, around}
 use Rattle.counting.proofs.Pigeonhole.{Found, at, nowhere, find}
-use Rattle.counting.proofs.Reach.{returns}
-use Rattle.sheet.specs.declared.Sheet.{Sheet}
-use Rattle.sheet.specs.Darts.{tail, head, darts, touches, dart_at, next}
+use Rattle.counting.proofs.Reach.{returns, iter_one_one}
+use Rattle.clauses.specs.declared.Sheet.{Sheet}
+use Rattle.sheet.specs.Darts.{darts, touches, dart_at, next}
 use Rattle.sheet.specs.Sound.{Sound}
-use Rattle.soundness.proofs.Tests.{Says, eq_says, or_says}
 use Rattle.soundness.proofs.Darts.{edge_below}
 use Rattle.soundness.proofs.Rings.{Rotation}
 use Rattle.soundness.proofs.Law.{rotation_of}
 use Rattle.load.specs.Rings.{link_ring}
 use Rattle.writesheet.specs.Rings.{ring_from, rotation}
 use Rattle.roundtrip.proofs.Around.{Around}
-use Rattle.soundness.proofs.Ends.{EndAt, at_edge, at_below, at_end, end_touches, end_at_law}
+use Rattle.soundness.proofs.Ends.{EndAt, at_edge, at_below, at_end, end_touches, end_at_law, touched}
 use Rattle.roundtrip.proofs.Linking.{link_at}
-
--- ---- the lowest number that passes
-
-module _ (p : ℕ → Bool) where
-  lowest_passes : (n : ℕ) → lowest_below p n ≢ n → (lowest_below p n < n) × (p (lowest_below p n) ≡ true)
-  unfolding lowest_below
-  lowest_passes zero e = absurd (e refl)
-  lowest_passes (suc n) e = go (eqb (lowest_below p n) n) (p n) refl refl (lowest_passes n) e
-    where
-      go : (b c : Bool) → eqb (lowest_below p n) n ≡ b → p n ≡ c → (lowest_below p n ≢ n → (lowest_below p n < n) × (p (lowest_below p n) ≡ true))
-          → cond b (cond c n (suc n)) (lowest_below p n) ≢ suc n → (cond b (cond c n (suc n)) (lowest_below p n) < suc n) × (p (cond b (cond c n (suc n)) (lowest_below p n)) ≡ true)
-      go true true e t ih m = (omega arith, t)
-      go true false e t ih m = absurd (m refl)
-      go false c e t ih m = let (l, q) = ih (eqb-false (lowest_below p n) n e) in (omega arith, q)
-
-  some_lowest : (n k : ℕ) → k < n → p k ≡ true → lowest_below p n ≢ n
-  unfolding lowest_below
-  some_lowest zero k h t = absurd (omega arith)
-  some_lowest (suc n) k h t = go (eqb (lowest_below p n) n) (p n) refl refl (λ l. some_lowest n k l t)
-    where
-      go : (b c : Bool) → eqb (lowest_below p n) n ≡ b → p n ≡ c → (k < n → lowest_below p n ≢ n) → cond b (cond c n (suc n)) (lowest_below p n) ≢ suc n
-      go true true e u ih = omega arith
-      go true false e u ih = by_cases (ℕ_discrete k n) (λ q. clash t (ap p q ∙ u)) (λ q. absurd (ih (omega arith) (eqb-true (lowest_below p n) n e)))
-      go false c e u ih = let (l, q) = lowest_passes n (eqb-false (lowest_below p n) n e) in omega arith
 
 -- ---- the ends from d on
 
@@ -120,25 +87,14 @@ module _ (s : Sheet) where
     entry_end n i h = ap (λ w. dart_at s w v) (steps_entry n start i h) ∙ end_at_law s S.joins (end_in i)
 
     -- they differ
-    later : (i j : ℕ) → i < j → j < L → end i ≢ end j
-    later i zero h l e = omega arith
-    later zero (suc j) h l e = round.before j (omega arith) (sym e)
-    later (suc i) (suc j) h l e = later i j (omega arith) (omega arith) (R.perm.one_one (end i) (end j) (end_in i).below (end_in j).below e)
-
     differ : (i j : ℕ) → i < L → j < L → end i ≡ end j → i ≡ j
-    differ i j h k e = by_cases (dec_lt i j) (λ l. absurd (later i j l k e)) (λ l. by_cases (dec_lt j i) (λ m. absurd (later j i m h (sym e))) (λ m. omega arith))
+    differ i j h k e = iter_one_one R.perm round.last start from.below round.before i j (omega arith) (omega arith) e
 
     -- every end at the bar is one of them
-    within : (i : ℕ) → (k : ℕ) × (k < L) × (end k ≡ end i)
-    within zero = (zero, omega arith, refl)
-    within (suc i) = let (k, h, e) = within i in by_cases (ℕ_discrete k round.last)
-        (λ q. (zero, omega arith, sym round.returned ∙ ap (λ x. iter (next s) (suc x) start) (sym q) ∙ ap (next s) e))
-        (λ q. (suc k, omega arith, ap (next s) e))
-
     place : {d : ℕ} → EndAt s v d → (i : ℕ) × (i < L) × (end i ≡ d)
     place {d} e =
         let (j, q) = R.ring start d from.below e.below (from.here ∙ sym e.here) in
-        let (i, h, p) = within j in
+        let (i, h, p) = around (next s) start L (omega arith) round.returned j in
         (i, h, p ∙ q)
 
     ring_around : Around s v ring
@@ -192,21 +148,11 @@ module _ (s : Sheet) (S : Sound s) where
         again = ap (λ k. iter (next s) k start) size ∙ (round s S v start from).returned;
       })
 
-  -- every bar has a wire
-  touched : (v : ℕ) → v < s.vertices → (k : ℕ) × (k < s.edges) × (touches s k v ≡ true)
-  unfolding touches_of
-  touched v h = by_cases (ℕ_discrete v 0)
-      (λ e. (0, omega (arith, S.limits.edges_least), (says 0).1 (inl (S.root_tail ∙ sym e))))
-      (λ n. let (k, l, e) = S.poles.other_sources v h n in (k, l, (says k).1 (inr e)))
-    where
-      says : (k : ℕ) → Says (touches s k v) ((tail s k ≡ v) ⊎ (head s k ≡ v))
-      says k = or_says (eq_says (tail s k) v) (eq_says (head s k) v)
-
   pub rotation_begun : (v : ℕ) → v < s.vertices → (start : ℕ) × Begun s v start (rotation s v)
   unfolding rotation
   rotation_begun v h =
-      let (k, l, t) = touched v h in
-      let (below, touching) = lowest_passes (λ k. touches s k v) s.edges (some_lowest (λ k. touches s k v) s.edges k l t) in
+      let (k, l, t) = touched S v h in
+      let (below, touching, _) = lowest_found (λ k. touches s k v) s.edges k l t in
       (_, ring_begun v _ (at_end s (lowest_below (λ k. touches s k v) s.edges) v below touching))
 
   pub rotated : (v : ℕ) → v < s.vertices → Rotated s v (rotation s v)

@@ -1,16 +1,12 @@
 -- A written sheet reads back as the same sheet. Assumes nothing.
-use mathlib.Core.Path.{◌≡◌, refl, sym, ◌∙◌, ap, subst}
-use mathlib.Core.Logic.{by_cases}
-use mathlib.Core.Bool.{true}
-use mathlib.Core.List.{List, [], ◌∷◌, ◌++◌}
-use Prim.Native.Nat.{ℕ, zero, suc, ◌+◌, ◌≤◌, ◌<◌}
-use native.Mathlib.Decide.{ℕ_discrete, dec_lt}
-use native.Mathlib.Omega.{arith}
-use borrow.Author.Tests.{lt-ltb, le-leb, ne_eqb}
-use lib.ListN.{get_or, length, set, length-append}
-use lib.Seq.{ext_get_or}
+use Rattle.std.proofs.Common.{◌≡◌, refl, sym, ◌∙◌, ap, subst, true, List, [], ◌∷◌, ◌++◌, ℕ, zero, suc, ◌+◌, ◌≤◌, ◌<◌, arith, lt-ltb, le-leb, ne_eqb, get_or, length, set, length-append, ext_get_or}
+use Rattle.std.proofs.Math.Logic.{by_cases}
+use Rattle.std.proofs.Math.Decide.{ℕ_discrete, dec_lt}
+use Rattle.std.proofs.Math.ListN.{length-replicate}
 use Rattle.clauses.specs.Darts.{touches_of}
 use Rattle.counting.specs.Below.{join_below}
+use Rattle.counting.proofs.Joined.{join_size}
+use Rattle.counting.proofs.Stores.{replicate_at}
 use Rattle.text.specs.Reading.{Listed, listed, line_at}
 use Rattle.text.specs.Shapes.{with_one, with_two, with_some}
 use Rattle.text.specs.Written.{line}
@@ -18,7 +14,7 @@ use Rattle.layout.specs.Layout.{Stands, Numerals}
 use Rattle.layout.proofs.Standing.{stands_left, stands_right}
 use Rattle.layout.specs.Mixed.{MixedEnds}
 use Rattle.layout.proofs.Mixed.{mixed_same, mixed_parts, endless, mixed_read}
-use Rattle.sheet.specs.declared.Sheet.{Sheet}
+use Rattle.clauses.specs.declared.Sheet.{Sheet}
 use Rattle.answers.specs.Refusals.{answering}
 use Rattle.sheet.specs.Darts.{Sized, tail, head, darts, vertex, next}
 use Rattle.sheet.specs.Sound.{Joins, Sound}
@@ -31,13 +27,13 @@ use Rattle.writesheet.specs.Rings.{rotation}
 use Rattle.load.specs.Load.{Parsed, empty_sheet, with_edge, with_nexts, judged, ring_lines, edge_lines, with_count, parsed, load}
 use Rattle.writesheet.specs.Write.{sheet_lines, sheet_text}
 use Rattle.roundtrip.specs.Laws.{RoundTripLaw, MixedRoundTrip}
-use Rattle.roundtrip.proofs.Entries.{zeros, zeros_length, zeros_each, Filled, filled_none, filled_more, filled_all}
+use Rattle.roundtrip.proofs.Entries.{zeros, Filled, filled_none, filled_more, filled_all}
 use Rattle.roundtrip.proofs.Around.{around_law}
 use Rattle.soundness.proofs.Ends.{at_below}
 use Rattle.roundtrip.proofs.Linking.{link_length, link_anew, link_other}
 use Rattle.roundtrip.proofs.Laid.{link_leaves}
 use Rattle.roundtrip.proofs.Rotations.{Rotated, rotated}
-use Rattle.roundtrip.proofs.Standing.{stands_front, joined_length, stands_joined, one_number, two_numbers, Joined, mixed_joined}
+use Rattle.roundtrip.proofs.Standing.{stands_front, stands_joined, one_number, two_numbers, Joined, mixed_joined}
 
 -- the lines of a wire and of a bar
 abbrev edge_text : Sheet → ℕ → List ℕ
@@ -114,7 +110,7 @@ module _ (s : Sheet) (z : Sized s) (S : Sound s) (ring : ℕ → List ℕ) (rota
         let numerals : Numerals (ring v) = record { some = T.some; small = λ i h. omega (arith, T.around.inside i h, S.limits.edges_most) } in
         let there : Stands text at (J.mixed v) = rw p (stands_joined J.mixed s.vertices v (omega arith) (subst (Stands text base) J.whole H)) in
         ring_step text s nexts (ring v) r v at (at + length (J.mixed v)) (mixed_read around_key text (ring v) (J.mixed v) at refl numerals (J.each v (omega arith)) there) ((around_law s v (ring v)).1 T.around)
-        ∙ rings_back r (link_ring s v (ring v) nexts) (v + 1) (at + length (J.mixed v)) (omega arith) (omega (arith, joined_length J.mixed v)) (placed_more v nexts (omega arith) P)
+        ∙ rings_back r (link_ring s v (ring v) nexts) (v + 1) (at + length (J.mixed v)) (omega arith) (omega (arith, join_size J.mixed v)) (placed_more v nexts (omega arith) P)
 
   -- and those of the wires
   module _ (text : List ℕ) (base : ℕ) (us : List ℕ) (J : Joined (edge_text s) s.edges us) (H : Stands text base us) where
@@ -129,11 +125,11 @@ module _ (s : Sheet) (z : Sized s) (S : Sound s) (ring : ℕ → List ℕ) (rota
         let numerals : Numerals (tail s k ∷ head s k ∷ []) = two_numbers (tail s k) (head s k) (omega (arith, joins.tail_in, S.limits.vertices_most)) (omega (arith, joins.head_in, S.limits.vertices_most)) in
         let there : Stands text at (J.mixed k) = rw p (stands_joined J.mixed s.edges k (omega arith) (subst (Stands text base) J.whole H)) in
         edge_step text s tails heads r k at (at + length (J.mixed k)) (mixed_read wire_key text (tail s k ∷ head s k ∷ []) (J.mixed k) at refl numerals (J.each k (omega arith)) there) joins
-        ∙ edges_back r (set tails k (tail s k)) (set heads k (head s k)) (k + 1) (at + length (J.mixed k)) (omega arith) (omega (arith, joined_length J.mixed k))
+        ∙ edges_back r (set tails k (tail s k)) (set heads k (head s k)) (k + 1) (at + length (J.mixed k)) (omega arith) (omega (arith, join_size J.mixed k))
         (filled_more (omega (arith, z.tails, S.limits.edges_most)) F) (filled_more (omega (arith, z.heads, S.limits.edges_most)) G)
 
   placed_none : Placed 0 (zeros 512)
-  placed_none = record { sized = zeros_length 512; done = λ d h l. absurd (omega arith); unused = λ d h. zeros_each 512 d }
+  placed_none = record { sized = length-replicate {A = ℕ} 512 0; done = λ d h l. absurd (omega arith); unused = λ d h. replicate_at 0 512 d }
 
   -- the whole text stands at the front
   parse_back : (text us : List ℕ) → MixedEnds (sheet_lines s ring) us → Stands text 0 us → load text ≡ parsed s (length us)

@@ -1,17 +1,10 @@
 -- Lines that stand in a text. Assumes nothing.
-use mathlib.Core.Path.{◌≡◌, refl, sym, ◌∙◌, ap₂}
-use mathlib.Core.Bool.{cond}
-use mathlib.Core.Logic.{by_cases}
-use mathlib.Core.List.{List, [], ◌∷◌, ◌++◌}
-use Prim.Native.Nat.{ℕ, zero, suc, ◌+◌, ◌<◌}
-use native.Mathlib.Decide.{ℕ_discrete}
-use native.Mathlib.Nat.{zero-add}
-use native.Mathlib.Numerals.{add-one}
-use native.Mathlib.Omega.{arith}
-use borrow.Author.Tests.{eq-eqb, ne_eqb}
-use lib.Dec.{eqb}
-use lib.ListN.{get_or, length, length-append, get_or-append}
+use Rattle.std.proofs.Common.{◌≡◌, refl, sym, ◌∙◌, ap₂, cond, List, [], ◌∷◌, ◌++◌, ℕ, zero, suc, ◌+◌, ◌<◌, zero-add, arith, eq-eqb, ne_eqb, eqb, get_or, length, length-append}
+use Rattle.std.proofs.Math.Logic.{by_cases}
+use Rattle.std.proofs.Math.Decide.{ℕ_discrete}
+use Rattle.std.proofs.Math.ListN.{get_or-append}
 use Rattle.counting.specs.Below.{join_below}
+use Rattle.counting.proofs.Joined.{join_agree}
 use Rattle.layout.specs.Layout.{Stands, Numerals}
 use Rattle.layout.specs.Mixed.{MixedEnds}
 use Rattle.layout.specs.Mixed.MixedEnds.{over}
@@ -24,10 +17,6 @@ stands_front ds rest = record { room = omega (arith, length-append ds rest); eac
 
 module _ (f : ℕ → List ℕ) where
   -- the texts f 0, f 1, … one after the other
-  pub joined_length : (k : ℕ) → length (join_below f (k + 1)) ≡ length (join_below f k) + length (f k)
-  unfolding join_below
-  joined_length k = rw (add-one k) (length-append (join_below f k) (f k))
-
   pub stands_joined : {text : List ℕ} {at : ℕ} (n k : ℕ) → k < n → Stands text at (join_below f n) → Stands text (at + length (join_below f k)) (f k)
   unfolding join_below
   stands_joined zero k h H = absurd (omega arith)
@@ -52,11 +41,6 @@ two_numbers a b h k = record { some = omega arith; small = each }
 
 -- ---- texts one after the other, with line ends of both kinds
 
-pub joined_agree : (f g : ℕ → List ℕ) (n : ℕ) → ((k : ℕ) → k < n → f k ≡ g k) → join_below f n ≡ join_below g n
-unfolding join_below
-joined_agree f g zero h = refl
-joined_agree f g (suc n) h = rw (joined_agree f g n (λ k l. h k (omega arith)), h n (omega arith)) refl
-
 pub record Joined (f : ℕ → List ℕ) (n : ℕ) (us : List ℕ) : Type 0 where
   pub mixed : ℕ → List ℕ
   pub whole : us ≡ join_below mixed n
@@ -70,7 +54,7 @@ mixed_joined f (suc n) us m = go (mixed_parts (join_below f n) (f n) us m) (λ v
     go : Parts (join_below f n) (f n) us → ((vs : List ℕ) → MixedEnds (join_below f n) vs → Joined f n vs) → Joined f (suc n) us
     go p ih = record {
       mixed = g;
-      whole = p.whole ∙ ap₂ (λ a b. a ++ b) (J.whole ∙ joined_agree J.mixed g n (λ k h. sym (before k h))) (sym here);
+      whole = p.whole ∙ ap₂ (λ a b. a ++ b) (J.whole ∙ join_agree J.mixed g n (λ k h. sym (before k h))) (sym here);
       each = λ k h. by_cases (ℕ_discrete k n) (λ e. rw (e, here) p.back_mixed) (λ e. rw (before k (omega arith)) (J.each k (omega arith)));
     }
       where

@@ -1,9 +1,5 @@
 -- What write sheet leaves in its buffer loads as the sheet that was written. Assumes nothing.
-use Rattle.std.specs.Prelude.{Ok, Err}
-use mathlib.Core.Path.{◌≡◌, refl, ap, ◌∙◌}
-use mathlib.Core.List.{List}
-use Prim.Native.Nat.{ℕ}
-use lib.ListN.{length, drop}
+use Rattle.std.proofs.Common.{Ok, Err, ◌≡◌, refl, ap, ◌∙◌, List, ℕ, length, drop}
 use Rattle.answers.specs.Answers.{Answer}
 use Rattle.answers.specs.Refusals.{answering}
 use Rattle.sheet.specs.Check.{sound}

@@ -1,6 +1,6 @@
 -- What load and write sheet owe each other.
 use Rattle.std.specs.Prelude.{◌≡◌, List, ◌++◌, ℕ, length, Ok}
-use Rattle.sheet.specs.declared.Sheet.{Sheet}
+use Rattle.clauses.specs.declared.Sheet.{Sheet}
 use Rattle.sheet.specs.Darts.{Sized}
 use Rattle.sheet.specs.Sound.{Sound}
 use Rattle.layout.specs.Mixed.{MixedEnds}

@@ -1,14 +1,8 @@
 -- Whether a directed path leads from one bar to another, told by the circles of a graph: that of the sheet, with the edge from a to b in the place
 -- of edge 0. Assumes nothing.
-use Prim.Native.Nat.{ℕ, suc, ◌+◌, ◌≤◌, ◌<◌}
-use mathlib.Core.Path.{◌≡◌, refl, sym, ◌∙◌, ap}
-use mathlib.Core.Logic.{◌≢◌, ◌↔◌, ◌⊎◌, inl, inr, ⊎_elim, by_cases}
-use mathlib.Core.Bool.{Bool, true, false, not, cond}
-use mathlib.Core.List.{List}
-use native.Mathlib.Decide.{ℕ_discrete}
-use native.Mathlib.Omega.{arith}
-use lib.ListN.{get_or, set}
-use lib.Seq.{get_or-set_same, get_or-set_other}
+use Rattle.std.proofs.Common.{ℕ, suc, ◌+◌, ◌≤◌, ◌<◌, ◌≡◌, refl, sym, ◌∙◌, ap, ◌≢◌, ◌↔◌, ◌⊎◌, inl, inr, ⊎_elim, Bool, true, false, not, cond, List, arith, get_or, set, get_or-set_same, get_or-set_other}
+use Rattle.std.proofs.Math.Logic.{by_cases}
+use Rattle.std.proofs.Math.Decide.{ℕ_discrete}
 use Rattle.counting.specs.Paths.{Path, Circle}
 use Rattle.counting.specs.Paths.Path.{here, more}
 use Rattle.counting.proofs.Iterate.{by_bool}
@@ -16,7 +10,7 @@ use Rattle.counting.proofs.Paths.{no_circle}
 use Rattle.digraph.specs.Digraph as digraph
 use Rattle.digraph.specs.Digraph.{Within}
 use Rattle.digraph.specs.Relaxed.{levels_of}
-use Rattle.sheet.specs.declared.Sheet.{Sheet}
+use Rattle.clauses.specs.declared.Sheet.{Sheet}
 use Rattle.sheet.specs.Darts.{tail, head}
 use Rattle.sheet.specs.Sound.{Leads}
 use Rattle.sheet.specs.Check.{row}

@@ -1,8 +1,9 @@
 // Run: an edge more, between two corners of one face.
+// Narrowing is by `as`: there is no `From` for it, and `TryFrom` would have a failing branch where the contracts show that the number fits.
 #![tactic(auto)]
 
 ghost use Rattle.std.specs.Prelude.{◌≡◌, ◌<◌, ◌&&◌, ltb, get_or};
-ghost use Rattle.clauses.specs.Darts.{opposite, touches_of};
+ghost use Rattle.clauses.specs.Darts.{opposite, touches_of, dart_of};
 ghost use Rattle.sheet.specs.Check.{row_levels};
 ghost use Rattle.edit.specs.Reaching.{leads_to};
 ghost use Rattle.edit.specs.Changes.{run_edge};
@@ -10,17 +11,9 @@ ghost use Rattle.edit.specs.Calls.{run_answer, run_call};
 ghost use Rattle.run.specs.Inner.{corner_of, Pair, Named, Room};
 
 use answers::Refusal;
-use clauses::dart_at;
-use sheet::Sheet;
-
-// Whether edge k has an end at vertex v.
-#[tactic(auto, unfolding(clauses::specs::Darts::touches_of))]
-fn touches(tails: &[u16; 256], heads: &[u16; 256], k: usize, v: usize) -> bool
-    requires { k < 256 }
-    ensures { result ≡ touches_of tails.now heads.now k v }
-{
-    usize::from(tails[k]) == v || usize::from(heads[k]) == v
-}
+use clauses::{dart_at, head_dart, tail_dart};
+use digraph::Digraph;
+use sheet::{Findings, Sheet};
 
 // The face that holds the other end of a dart's edge.
 #[tactic(auto, unfolding(clauses::specs::Darts::opposite))]
@@ -36,13 +29,47 @@ fn across(faces: &[u16; 512], dart: u16) -> u16
     }
 }
 
-// The face of the corner after edge k at vertex v.
-fn corner(faces: &[u16; 512], tails: &[u16; 256], k: usize, v: usize) -> u16
-    requires { k < 256 }
-    ensures { result ≡ corner_of faces.now tails.now k v }
-{
-    let dart = dart_at(tails, k, v);
-    across(faces, dart)
+// A corner: the place at a vertex just after an edge clockwise. A call may name an edge that has no end there.
+#[derive(Clone, Copy)]
+struct Corner {
+    vertex: usize,
+    edge: usize,
+}
+
+impl Corner {
+    // Whether the vertex and the edge are in the sheet.
+    fn is_named(self, s: &Sheet) -> bool
+        ensures { result ≡ (ltb self.vertex s.now.vertices && ltb self.edge s.now.edges) }
+    {
+        self.vertex < s.vertices && self.edge < s.edges
+    }
+
+    // Whether the edge has an end at the vertex.
+    #[tactic(auto, unfolding(clauses::specs::Darts::touches_of))]
+    fn touches(self, s: &Sheet) -> bool
+        requires { self.edge < 256 }
+        ensures { result ≡ touches_of s.now.tails s.now.heads self.edge self.vertex }
+    {
+        usize::from(s.tails[self.edge]) == self.vertex
+            || usize::from(s.heads[self.edge]) == self.vertex
+    }
+
+    // The dart of that end.
+    fn dart(self, s: &Sheet) -> u16
+        requires { self.edge < 256 }
+        ensures { (result ≡ dart_of s.now.tails self.edge self.vertex) × (result < 512) }
+    {
+        dart_at(&s.tails, self.edge, self.vertex)
+    }
+
+    // The face that holds the corner.
+    #[tactic(auto, unfolding(crate::specs::Inner::corner_of))]
+    fn face(self, s: &Sheet, faces: &[u16; 512]) -> u16
+        requires { self.edge < 256 }
+        ensures { result ≡ corner_of faces.now s.now.tails self.edge self.vertex }
+    {
+        across(faces, self.dart(s))
+    }
 }
 
 // Whether a directed path leads from b to a. From vertex 0 one leads to every vertex, and to a row that is not above its start's none. From
@@ -62,78 +89,65 @@ fn leads_back(s: Sheet, rows: &[u16; 256], a: usize, b: usize) -> bool
     tails[0] = a as u16;
     let mut heads = s.heads;
     heads[0] = b as u16;
-    digraph::levels(s.vertices, s.edges, &tails, &heads).is_none()
+    let graph = Digraph {
+        nodes: s.vertices,
+        edges: s.edges,
+        from: &tails,
+        to: &heads,
+    };
+    graph.levels().is_none()
 }
 
-// The sheet with an edge from a to b, whose ends come just after p and after q clockwise.
-fn add_edge(s: Sheet, a: usize, p: usize, b: usize, q: usize) -> Sheet
-    requires { Room s a p b q }
-    ensures { result ≡ run_edge s a p b q }
+// The sheet with an edge between two corners.
+#[tactic(auto, unfolding(edit::specs::Changes::run_edge))]
+fn add_edge(s: Sheet, from: Corner, to: Corner) -> Sheet
+    requires { Room s from to }
+    ensures { result ≡ run_edge s from.vertex from.edge to.vertex to.edge }
 {
     let m = s.edges;
-    let mut tails = s.tails;
-    let mut heads = s.heads;
-    let mut nexts = s.nexts;
-    let start = dart_at(&tails, p, a);
-    let end = dart_at(&tails, q, b);
-    splice::insert_dart(&mut nexts, (2 * m) as u16, start);
-    splice::insert_dart(&mut nexts, (2 * m + 1) as u16, end);
-    tails[m] = a as u16;
-    heads[m] = b as u16;
-    Sheet {
-        vertices: s.vertices,
-        edges: m + 1,
-        tails,
-        heads,
-        nexts,
-    }
-}
-
-// Whether vertices a and b and edges p and q are in the sheet.
-fn are_named(s: &Sheet, a: usize, p: usize, b: usize, q: usize) -> bool
-    ensures { result ≡ (ltb a s.now.vertices && ltb b s.now.vertices && ltb p s.now.edges && ltb q s.now.edges) }
-{
-    a < s.vertices && b < s.vertices && p < s.edges && q < s.edges
+    let mut made = Sheet { edges: m + 1, ..s };
+    let start = from.dart(&s);
+    let end = to.dart(&s);
+    splice::insert_dart(&mut made.nexts, tail_dart(m), start);
+    splice::insert_dart(&mut made.nexts, head_dart(m), end);
+    made.tails[m] = from.vertex as u16;
+    made.heads[m] = to.vertex as u16;
+    made
 }
 
 // What run refuses, in order.
-fn run_answer(s: Sheet, a: usize, p: usize, b: usize, q: usize) -> Result<(), Refusal>
-    ensures { result ≡ run_answer s a p b q }
+fn run_answer(s: Sheet, from: Corner, to: Corner) -> Result<(), Refusal>
+    ensures { result ≡ run_answer s from.vertex from.edge to.vertex to.edge }
 {
     let found = sheet::examine(s)?;
-    if !are_named(&s, a, p, b, q) {
+    if !from.is_named(&s) {
         return Err(Refusal::NotInSheet);
     }
-    join_answer(s, &found.faces, &found.rows, a, p, b, q)
+    if !to.is_named(&s) {
+        return Err(Refusal::NotInSheet);
+    }
+    join_answer(s, &found, from, to)
 }
 
 // What run refuses of a sound sheet whose vertices and edges are named, in order.
-#[tactic(auto, using(crate::proofs::Answers::join_answers))]
-fn join_answer(
-    s: Sheet,
-    faces: &[u16; 512],
-    rows: &[u16; 256],
-    a: usize,
-    p: usize,
-    b: usize,
-    q: usize,
-) -> Result<(), Refusal>
-    requires { Named s faces.now a p b q × (rows.now ≡ (row_levels s).level) }
-    ensures { result ≡ run_answer s a p b q }
+#[tactic(auto, using(crate::proofs::Corners::corner_is), unfolding(answers::specs::Refusals::first, edit::specs::Calls::run_answer))]
+fn join_answer(s: Sheet, found: &Findings, from: Corner, to: Corner) -> Result<(), Refusal>
+    requires { Named s found.now.faces from to × (found.now.rows ≡ (row_levels s).level) }
+    ensures { result ≡ run_answer s from.vertex from.edge to.vertex to.edge }
 {
-    if !touches(&s.tails, &s.heads, p, a) {
+    if !from.touches(&s) {
         return Err(Refusal::CornersApart);
     }
-    if !touches(&s.tails, &s.heads, q, b) {
+    if !to.touches(&s) {
         return Err(Refusal::CornersApart);
     }
-    if corner(faces, &s.tails, p, a) != corner(faces, &s.tails, q, b) {
+    if from.face(&s, &found.faces) != to.face(&s, &found.faces) {
         return Err(Refusal::CornersApart);
     }
-    if a == b {
+    if from.vertex == to.vertex {
         return Err(Refusal::ClosesCircle);
     }
-    if leads_back(s, rows, a, b) {
+    if leads_back(s, &found.rows, from.vertex, to.vertex) {
         return Err(Refusal::ClosesCircle);
     }
     if s.edges == 256 {
@@ -143,9 +157,12 @@ fn join_answer(
 }
 
 // Run: edge m goes from a to b; its end at a comes just after p clockwise, its end at b just after q.
+#[tactic(auto, using(crate::proofs::Answers::given), unfolding(answers::specs::Refusals::answering))]
 pub fn run(s: Sheet, a: usize, p: usize, b: usize, q: usize) -> Result<Sheet, Refusal>
     ensures { result ≡ run_call s a p b q }
 {
-    run_answer(s, a, p, b, q)?;
-    Ok(add_edge(s, a, p, b, q))
+    let from = Corner { vertex: a, edge: p };
+    let to = Corner { vertex: b, edge: q };
+    run_answer(s, from, to)?;
+    Ok(add_edge(s, from, to))
 }

@@ -1,14 +1,6 @@
 -- Each clause of soundness over the arrays; what the answer is by them. Assumes nothing.
-use Rattle.std.specs.Prelude.{Result, Ok, Err, is_ok}
-use Prim.Native.Nat.{ℕ, ◌+◌, ◌*◌, ◌≤◌, ◌<◌}
-use mathlib.Core.Path.{◌≡◌, refl, sym, ap, ◌∙◌}
-use mathlib.Core.Logic.{◌≢◌}
-use mathlib.Core.Bool.{Bool, true, false, ◌&&◌, ◌||◌, cond, and-eq-true_iff, or-and_distrib_left, true≢false}
-use mathlib.Core.List.{List}
-use native.Mathlib.Omega.{arith}
-use borrow.Author.Tests.{leb-true, eq-eqb, ne_eqb}
-use lib.Dec.{eqb, ltb, leb}
-use lib.ListN.{get_or}
+use Rattle.std.proofs.Common.{Result, Ok, Err, is_ok, ℕ, ◌+◌, ◌*◌, ◌≤◌, ◌<◌, ◌≡◌, refl, sym, ap, ◌∙◌, ◌≢◌, Bool, true, false, ◌&&◌, ◌||◌, cond, true≢false, List, arith, leb-true, eq-eqb, ne_eqb, eqb, ltb, leb, get_or, Option, Some, None, ok_or}
+use Rattle.std.proofs.Math.Bool.{and-eq-true_iff, or-and_distrib_left}
 use Rattle.counting.specs.Below.{all_below}
 use Rattle.counting.proofs.Iterate.{by_bool}
 use Rattle.orbits.specs.declared.Traced.{Traced}
@@ -16,10 +8,9 @@ use Rattle.orbits.specs.Tables.{traced}
 use Rattle.orbits.proofs.Numbering.{count_law}
 use Rattle.digraph.specs.Digraph.{Within}
 use Rattle.digraph.specs.Relaxed.{within_of, climbs, rounds, answer, found, levels_of}
-use Rattle.std.specs.Prelude.{Some, None}
 use Rattle.digraph.proofs.Relaxation.{found_none, found_some}
 use Rattle.digraph.proofs.Tests.{within_is}
-use Rattle.sheet.specs.declared.Sheet.{Sheet}
+use Rattle.clauses.specs.declared.Sheet.{Sheet}
 use Rattle.answers.specs.declared.Refusal.{Refusal}
 use Rattle.answers.specs.declared.Refusal.TheVariants.{BadRoot, Cyclic, BadPoles, NotPlanar, NotSound}
 use Rattle.sheet.specs.declared.Findings.{Findings}
@@ -29,7 +20,8 @@ use Rattle.sheet.specs.Darts.{tail, head, darts}
 use Rattle.sheet.specs.Check.{within_limits, joined, in_rings, unused_zero, rooted, row_levels, acyclic, incoming, outgoing, poles, face_table, planar, sound, judge}
 use Rattle.sheet.specs.Inner.{findings_in, bounded, faced_of, judged_of, findings_of}
 use Rattle.clauses.proofs.Touching.{joins_means}
-use Rattle.clauses.specs.Inner.{limits_of, joins_at, zero_at, unused_of, Ends, dart_table, walk_of, end_of, pole_at, poles_of, rooted_of}
+use Rattle.digraph.specs.Inner.{Ends}
+use Rattle.clauses.specs.Inner.{limits_of, joins_at, zero_at, unused_of, dart_table, walk_of, end_of, pole_at, poles_of, rooted_of}
 use Rattle.rings.specs.Inner.{rings_of, ring_levels}
 use Rattle.sheet.specs.Darts.{sheet_of}
 use Rattle.counting.proofs.Below.{all_at, all_agree, all_both}
@@ -65,26 +57,30 @@ pub few_orbits : (n : ℕ) (step : List ℕ) (f : Traced) → f ≡ traced n ste
 few_orbits n step f e = rw e (count_law n step)
 
 -- by the number of faces
-faced_is : (otherwise : Refusal) (s : Sheet) → faced_of otherwise s.vertices s.edges s.nexts (row_levels s).level ≡ cond (planar s) (Ok (findings_in s)) (Err otherwise)
+faced_is : (s : Sheet) → faced_of s.vertices s.edges s.nexts (row_levels s).level ≡ cond (planar s) (Some (findings_in s)) None
 unfolding faced_of planar findings_in face_table dart_table walk_of
-faced_is otherwise s = refl
+faced_is s = refl
+
+-- or a refusal
+faced_or : (s : Sheet) (r : Refusal) → ok_or (faced_of s.vertices s.edges s.nexts (row_levels s).level) r ≡ cond (planar s) (Ok (findings_in s)) (Err r)
+faced_or s r = rw (faced_is s) (by_bool (planar s) (λ t. rw t refl) (λ t. rw t refl))
 
 judged_by : (s : Sheet) → rooted s ≡ true → acyclic s ≡ true → poles s ≡ true → cond (planar s) (Ok (findings_in s)) (Err NotPlanar) ≡ judged_of s
 unfolding judged_of judge first answering
 judged_by s r a p = rw (r, a, p) (by_bool (planar s) (λ t. rw t refl) (λ t. rw t refl))
 
-pub face_refused : (otherwise : Refusal) (n m : ℕ) (nexts rows walk : List ℕ) → walk ≡ dart_table (walk_of nexts) (2 * m) → (f : Traced) → f ≡ traced (2 * m) walk → (n + f.count ≡ m + 2 → ⊥)
-    → Err otherwise ≡ faced_of otherwise n m nexts rows
+pub face_refused : (n m : ℕ) (nexts rows walk : List ℕ) → walk ≡ dart_table (walk_of nexts) (2 * m) → (f : Traced) → f ≡ traced (2 * m) walk → (n + f.count ≡ m + 2 → ⊥)
+    → None ≡ faced_of n m nexts rows
 unfolding faced_of
-face_refused otherwise n m nexts rows walk we f fe q =
+face_refused n m nexts rows walk we f fe q =
     let z = fe ∙ ap (traced (2 * m)) we in
     let b = ne_eqb (n + f.count) (m + 2) q in
     rw (← z, b) refl
 
-pub face_met : (otherwise : Refusal) (n m : ℕ) (nexts rows walk : List ℕ) → walk ≡ dart_table (walk_of nexts) (2 * m) → (f : Traced) → f ≡ traced (2 * m) walk → n + f.count ≡ m + 2
-    → Ok (record { rows = rows; faces = f.orbit; count = f.count }) ≡ faced_of otherwise n m nexts rows
+pub face_met : (n m : ℕ) (nexts rows walk : List ℕ) → walk ≡ dart_table (walk_of nexts) (2 * m) → (f : Traced) → f ≡ traced (2 * m) walk → n + f.count ≡ m + 2
+    → Some (record { rows = rows; faces = f.orbit; count = f.count }) ≡ faced_of n m nexts rows
 unfolding faced_of
-face_met otherwise n m nexts rows walk we f fe q =
+face_met n m nexts rows walk we f fe q =
     let z = fe ∙ ap (traced (2 * m)) we in
     let b = eq-eqb (n + f.count) (m + 2) q in
     rw (← z, b) refl
@@ -129,11 +125,16 @@ module _ (n m : ℕ) (tails heads : List ℕ) where
         unfolding judged_of judge first answering rooted rooted_of acyclic row_levels
         bad_poles p = rw (r, acyclic_law rows e, poles_is (sheet_of n m tails heads nexts), p) refl
 
-        pub by_faces : poles_of n m tails heads ≡ true → (f : Result Findings Refusal) → f ≡ faced_of NotPlanar n m nexts rows → f ≡ judged_of (sheet_of n m tails heads nexts)
+        pub by_faces : poles_of n m tails heads ≡ true → (f : Result Findings Refusal) → f ≡ ok_or (faced_of n m nexts rows) NotPlanar → f ≡ judged_of (sheet_of n m tails heads nexts)
         unfolding rooted rooted_of acyclic row_levels
         by_faces p f q =
             let s = sheet_of n m tails heads nexts in
-            q ∙ ap (faced_of NotPlanar n m nexts) (found_some (levels_of n m tails heads) rows e).1 ∙ faced_is NotPlanar s ∙ judged_by s r (acyclic_law rows e) (poles_is s ∙ p)
+            q ∙ ap (λ l. ok_or (faced_of n m nexts l) NotPlanar) (found_some (levels_of n m tails heads) rows e).1 ∙ faced_or s NotPlanar ∙ judged_by s r (acyclic_law rows e) (poles_is s ∙ p)
+
+-- what is found of the digraph of a sheet is found of its arrays
+pub of_digraph : {n n' m m' : ℕ} {from to tails heads : List ℕ} → (n ≡ n') × (m ≡ m') × (from ≡ tails) × (to ≡ heads)
+    → {r : Option (List ℕ)} → r ≡ found (levels_of n m from to) → r ≡ found (levels_of n' m' tails heads)
+of_digraph (en, em, ef, et) e = rw (en, em, ef, et) at e
 
 -- what a record within its bounds tells the next tests
 pub bounded_ends : (s : Sheet) → bounded s ≡ true
@@ -210,13 +211,13 @@ module _ (s : Sheet) where
     rings_in_law = by_bool (rings_of (darts s) s.tails s.heads s.nexts) (λ t. t) (λ f. let q = rw f at e in cc)
 
     pub by_all : bounded s ≡ true → rooted_of s.tails s.heads ≡ true → poles_of s.vertices s.edges s.tails s.heads ≡ true
-        → (f : Result Findings Refusal) → f ≡ faced_of NotSound s.vertices s.edges s.nexts rows → f ≡ findings_of s
+        → (f : Result Findings Refusal) → f ≡ ok_or (faced_of s.vertices s.edges s.nexts rows) NotSound → f ≡ findings_of s
     unfolding findings_of sound bounded rooted rooted_of acyclic
     by_all b r p f q =
         let (a, level) = found_some (row_levels s) rows (e ∙ ap found (with_rings rings_in_law)) in
         let (x, u) = (and-eq-true_iff (within_limits s && joined s) (unused_zero s)).0 b in
         let (y, j) = (and-eq-true_iff (within_limits s) (joined s)).0 x in
-        q ∙ ap (faced_of NotSound s.vertices s.edges s.nexts) level ∙ faced_is NotSound s
+        q ∙ ap (λ l. ok_or (faced_of s.vertices s.edges s.nexts l) NotSound) level ∙ faced_or s NotSound
         ∙ rw (y, j, rings_are s ∙ rings_in_law, u, r, a, poles_is s ∙ p) refl
 
   pub findings_answer : is_ok (findings_of s) ≡ sound s

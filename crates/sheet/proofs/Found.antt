@@ -2,8 +2,8 @@
 use Rattle.std.proofs.Common.{◌≡◌, true, false, Ok, Err, Result}
 use Rattle.answers.specs.declared.Refusal.{Refusal}
 use Rattle.answers.specs.declared.Refusal.TheVariants.{NotSound}
-use Rattle.counting.proofs.Iterate.{by_bool}
-use Rattle.sheet.specs.declared.Sheet.{Sheet}
+use Rattle.counting.proofs.Choice as choice
+use Rattle.clauses.specs.declared.Sheet.{Sheet}
 use Rattle.sheet.specs.declared.Findings.{Findings}
 use Rattle.sheet.specs.Check.{sound}
 use Rattle.sheet.specs.Inner.{findings_in, findings_of}
@@ -12,9 +12,9 @@ module _ (s : Sheet) (r : Result Findings Refusal) (e : r ≡ findings_of s) whe
   -- its refusal is 9, of a record that is not sound
   pub not_found : (q : Refusal) → r ≡ Err q → (sound s ≡ false) × (q ≡ NotSound)
   unfolding findings_of
-  not_found q h = by_bool (sound s) (λ t. cc (e, h, t)) (λ t. (t, cc (e, h, t)))
+  not_found q h = choice.refused (sound s) (findings_in s) NotSound e h
 
   -- else the record is sound, and these are its rows and faces
   pub found_is : (f : Findings) → r ≡ Ok f → (sound s ≡ true) × (f ≡ findings_in s)
   unfolding findings_of
-  found_is f h = by_bool (sound s) (λ t. (t, cc (e, h, t))) (λ t. cc (e, h, t))
+  found_is f h = choice.accepted (sound s) (findings_in s) NotSound e h

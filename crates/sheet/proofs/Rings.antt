@@ -1,9 +1,5 @@
 -- The test of the rings, over the record and over its arrays. Assumes nothing.
-use Prim.Native.Nat.{ℕ, ◌<◌}
-use mathlib.Core.Path.{◌≡◌, refl, sym, ap}
-use mathlib.Core.Bool.{Bool, not, ◌&&◌, ◌||◌}
-use lib.Dec.{eqb}
-use lib.ListN.{get_or}
+use Rattle.std.proofs.Common.{ℕ, ◌<◌, ◌≡◌, refl, sym, ap, Bool, not, ◌&&◌, ◌||◌, eqb, get_or}
 use Rattle.counting.specs.Below.{all_below}
 use Rattle.counting.proofs.Iterate.{by_bool}
 use Rattle.counting.proofs.Below.{all_agree}
@@ -12,7 +8,7 @@ use Rattle.orbits.proofs.Distinct.{permutation_law}
 use Rattle.clauses.specs.Inner.{dart_table, vertex_of}
 use Rattle.rings.specs.Inner.{ring_at, rings_in, rings_of}
 use Rattle.clauses.proofs.Below.{dart_at_law}
-use Rattle.sheet.specs.declared.Sheet.{Sheet}
+use Rattle.clauses.specs.declared.Sheet.{Sheet}
 use Rattle.sheet.specs.Darts.{darts, vertex, next}
 use Rattle.sheet.specs.Check.{in_rings}
 

@@ -6,7 +6,7 @@ use Rattle.orbits.specs.declared.Traced.{Traced}
 use Rattle.orbits.specs.Tables.{traced, is_permutation}
 use Rattle.digraph.specs.Digraph.{Layering}
 use Rattle.digraph.specs.Relaxed.{levels_of}
-use Rattle.sheet.specs.declared.Sheet.{Sheet}
+use Rattle.clauses.specs.declared.Sheet.{Sheet}
 use Rattle.answers.specs.Answers.{Answer}
 use Rattle.answers.specs.declared.Refusal.TheVariants.{BadRoot, Cyclic, BadPoles, NotPlanar}
 use Rattle.answers.specs.Refusals.{first, ◌if◌}

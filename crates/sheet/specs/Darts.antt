@@ -1,7 +1,7 @@
 -- The sheet record read as a directed graph with a clockwise order of the darts at each vertex. (Document 01's bar is a vertex, its wire an edge, its end a dart.)
 use Rattle.std.specs.Prelude.{ℕ, ◌*◌, ◌/◌, ◌≡◌, Bool, cond, List, get_or, length}
 use Rattle.clauses.specs.Darts.{is_tail, opposite, touches_of, dart_of}
-use Rattle.sheet.specs.declared.Sheet.{Sheet}
+use Rattle.clauses.specs.declared.Sheet.{Sheet}
 
 -- what the record's arrays have by their type
 pub record Sized (s : Sheet) : Type 0 where

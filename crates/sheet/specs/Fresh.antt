@@ -1,6 +1,6 @@
 -- The fresh sheet: bars 0 and 1, wires 0 and 1 both from 0 to 1.
 use Rattle.std.specs.Prelude.{◌∷◌, replicate}
-use Rattle.sheet.specs.declared.Sheet.{Sheet}
+use Rattle.clauses.specs.declared.Sheet.{Sheet}
 
 unfoldable pub fresh_sheet : Sheet
 fresh_sheet = record {

@@ -1,7 +1,7 @@
 -- Rows of bars and columns of faces.
 use Rattle.std.specs.Prelude.{ℕ, ◌<◌, ◌≡◌, ◌≢◌}
 use Rattle.counting.specs.Paths.{Longest}
-use Rattle.sheet.specs.declared.Sheet.{Sheet}
+use Rattle.clauses.specs.declared.Sheet.{Sheet}
 use Rattle.clauses.specs.Darts.{tail_dart, head_dart}
 use Rattle.sheet.specs.Sound.{Leads}
 

@@ -2,7 +2,7 @@
 use Rattle.std.specs.Prelude.{ℕ, ◌+◌, ◌≤◌, ◌<◌, ◌≡◌, ◌≢◌}
 use Rattle.counting.specs.Paths.{Circle}
 use Rattle.counting.specs.Orbits.{Reach, Orbits}
-use Rattle.sheet.specs.declared.Sheet.{Sheet}
+use Rattle.clauses.specs.declared.Sheet.{Sheet}
 use Rattle.sheet.specs.Darts.{tail, head, darts, vertex, next, walk}
 
 -- n and m are within limits: n bars, 2 to 128, m wires, 2 to 256

@@ -1,4 +1,4 @@
-// The sheet record, the fresh sheet, and the check of soundness, in time linear in the sheet.
+// The fresh sheet, and the check of soundness, in time linear in the sheet.
 #![tactic(auto)]
 
 ghost use Rattle.std.specs.Prelude.{◌≡◌, ◌≤◌};
@@ -7,18 +7,7 @@ ghost use Rattle.sheet.specs.Check.{sound, judge};
 ghost use Rattle.sheet.specs.Inner.{bounded, faced_of, judged_of, findings_of};
 
 use answers::Refusal;
-use clauses::{all_join, has_poles, is_rooted, unused_zero, walks, within_limits};
-
-// A sheet by value. Edge k (document 01's wire k) goes from vertex (bar) tails[k] to heads[k]. Dart 2k (end 2k)
-// is its end at the tail, dart 2k + 1 its end at the head; nexts[d] is the next dart clockwise at the same vertex.
-#[derive(Clone, Copy)]
-pub struct Sheet {
-    pub vertices: usize,
-    pub edges: usize,
-    pub tails: [u16; 256],
-    pub heads: [u16; 256],
-    pub nexts: [u16; 512],
-}
+pub use clauses::Sheet;
 
 // The fresh sheet: vertices 0 and 1, edges 0 and 1 both from 0 to 1.
 pub fn fresh() -> Sheet
@@ -41,7 +30,7 @@ pub fn fresh() -> Sheet
     }
 }
 
-// What the check finds of a sound sheet: the row of each vertex, the face of each dart and the number of faces.
+// What the check finds of a sound sheet: the row of each vertex, the face of each dart and the number of faces. Arrays: fixed memory, no heap.
 #[derive(Clone, Copy)]
 pub struct Findings {
     pub rows: [u16; 256],
@@ -53,46 +42,38 @@ pub struct Findings {
 fn is_bounded(s: &Sheet) -> bool
     ensures { result ≡ bounded s.now }
 {
-    within_limits(s.vertices, s.edges)
-        && all_join(s.vertices, s.edges, &s.tails, &s.heads)
-        && unused_zero(s.edges, &s.tails, &s.heads, &s.nexts)
+    s.within_limits() && s.all_join() && s.unused_zero()
 }
 
-// Judges by the number of faces, where all other clauses are met. The faces are traced once.
-fn faced(
-    otherwise: Refusal,
-    n: usize,
-    m: usize,
-    nexts: &[u16; 512],
-    rows: [u16; 256],
-) -> Result<Findings, Refusal>
-    requires { (n ≤ 256) × (m ≤ 256) }
-    ensures { result ≡ faced_of otherwise n m nexts.now rows }
+// What is found where the number of faces is right and all other clauses are met, with these rows. The faces are traced once.
+fn faced(s: &Sheet, rows: [u16; 256]) -> Option<Findings>
+    requires { (s.now.vertices ≤ 256) × (s.now.edges ≤ 256) }
+    ensures { result ≡ faced_of s.now.vertices s.now.edges s.now.nexts rows }
 {
-    let walk = walks(m, nexts);
-    let traced = orbits::trace(2 * m, &walk);
+    let walk = s.walks();
+    let traced = orbits::trace(2 * s.edges, &walk);
     let count = traced.count;
-    if n + count != m + 2 {
-        return Err(otherwise);
+    if s.vertices + count != s.edges + 2 {
+        return None;
     }
     let faces = traced.orbit;
-    Ok(Findings { rows, faces, count })
+    Some(Findings { rows, faces, count })
 }
 
 // Judges by the last four clauses in order: edge 0, directed circles, vertices 0 and 1, the number of faces.
 fn judged(s: &Sheet) -> Result<Findings, Refusal>
     ensures { result ≡ judged_of s.now }
 {
-    if !is_rooted(&s.tails, &s.heads) {
+    if !s.is_rooted() {
         return Err(Refusal::BadRoot);
     }
-    let Some(rows) = digraph::levels(s.vertices, s.edges, &s.tails, &s.heads) else {
+    let Some(rows) = s.digraph().levels() else {
         return Err(Refusal::Cyclic);
     };
-    if !has_poles(s.vertices, s.edges, &s.tails, &s.heads) {
+    if !s.has_poles() {
         return Err(Refusal::BadPoles);
     }
-    faced(Refusal::NotPlanar, s.vertices, s.edges, &s.nexts, rows)
+    faced(s, rows).ok_or(Refusal::NotPlanar)
 }
 
 // Examines any record: where it is sound, what later steps go on with, so that nothing is found twice; else 9.
@@ -103,16 +84,16 @@ pub fn examine(s: Sheet) -> Result<Findings, Refusal>
     if !is_bounded(&s) {
         return Err(Refusal::NotSound);
     }
-    if !is_rooted(&s.tails, &s.heads) {
+    if !s.is_rooted() {
         return Err(Refusal::NotSound);
     }
-    if !has_poles(s.vertices, s.edges, &s.tails, &s.heads) {
+    if !s.has_poles() {
         return Err(Refusal::NotSound);
     }
-    let Some(rows) = rings::levels(s.vertices, s.edges, &s.tails, &s.heads, &s.nexts) else {
+    let Some(rows) = rings::levels(&s) else {
         return Err(Refusal::NotSound);
     };
-    faced(Refusal::NotSound, s.vertices, s.edges, &s.nexts, rows)
+    faced(&s, rows).ok_or(Refusal::NotSound)
 }
 
 // What load refuses after its last line, of a sheet that meets the first four clauses: 5, 6, 7, 8 in order.

@@ -1,15 +1,10 @@
 -- What the tests of single wires, of unused entries and of the poles say. Assumes nothing.
-use mathlib.Core.Path.{◌≡◌, refl, subst}
-use mathlib.Core.Logic.{◌≢◌, ◌↔◌, inl, inr, by_cases}
-use mathlib.Core.Bool.{Bool, ◌||◌}
-use mathlib.Core.List.{List}
-use Prim.Native.Nat.{ℕ, ◌≤◌, ◌<◌}
-use native.Mathlib.Decide.{dec_lt}
-use native.Mathlib.Omega.{arith}
-use lib.Dec.{ltb}
-use lib.ListN.{get_or, length, get_or-eq_default}
+use Rattle.std.proofs.Common.{◌≡◌, refl, subst, ◌≢◌, ◌↔◌, inl, inr, Bool, ◌||◌, List, ℕ, ◌≤◌, ◌<◌, arith, ltb, get_or, length, eqb, ◌&&◌, not}
+use Rattle.std.proofs.Math.Logic.{by_cases}
+use Rattle.std.proofs.Math.Decide.{dec_lt}
+use Rattle.std.proofs.Math.ListN.{get_or-eq_default}
 use Rattle.counting.specs.Below.{all_below}
-use Rattle.sheet.specs.declared.Sheet.{Sheet}
+use Rattle.clauses.specs.declared.Sheet.{Sheet}
 use Rattle.sheet.specs.Darts.{Sized, tail, head, next, darts}
 use Rattle.sheet.specs.Sound.{Limits, Joins, Unused, Incoming, Outgoing, Poles}
 use Rattle.sheet.specs.Check.{within_limits, joined, unused_zero, rooted, incoming, outgoing, poles}
@@ -41,10 +36,13 @@ module _ (s : Sheet) where
       reworded (and_says (and_says (and_says (le_says 2 s.vertices) (le_says s.vertices 128)) (le_says 2 s.edges)) (le_says s.edges 256))
       (λ w. omega arith) (λ l. omega arith)
 
+  pub edge_says : (a b : ℕ) → Says (ltb a s.vertices && ltb b s.vertices && not (eqb a b)) (((a < s.vertices) × (b < s.vertices)) × (a ≢ b))
+  edge_says a b = and_says (and_says (lt_says a s.vertices) (lt_says b s.vertices)) (not_says (eq_says a b))
+
   pub joined_law : Says (joined s) ((k : ℕ) → k < s.edges → Joins s k)
   unfolding joined
   joined_law = all_says s.edges (λ k _.
-      reworded (and_says (and_says (lt_says (tail s k) s.vertices) (lt_says (head s k) s.vertices)) (not_says (eq_says (tail s k) (head s k))))
+      reworded (edge_says (tail s k) (head s k))
       (λ w. record { tail_in = w.0.0; head_in = w.0.1; different = w.1 })
       (λ j. ((j.tail_in, j.head_in), j.different)))
 

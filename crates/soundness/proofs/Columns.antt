@@ -1,19 +1,14 @@
 -- Columns of a sound sheet.
-use mathlib.Core.Path.{◌≡◌, refl, sym, ◌∙◌, ap}
-use mathlib.Core.Logic.{◌≢◌, by_cases}
-use mathlib.Core.Bool.{Bool, true, false}
-use Prim.Native.Nat.{ℕ, ◌-◌, ◌/◌, ◌<◌}
-use native.Mathlib.Decide.{ℕ_discrete}
-use native.Mathlib.Omega.{arith}
-use lib.ListN.{get_or, replicate}
-use borrow.Author.Tests.{ne_eqb}
+use Rattle.std.proofs.Common.{◌≡◌, refl, sym, ◌∙◌, ap, ◌≢◌, Bool, true, false, ℕ, ◌-◌, ◌/◌, ◌<◌, arith, get_or, replicate, ne_eqb}
+use Rattle.std.proofs.Math.Logic.{by_cases}
+use Rattle.std.proofs.Math.Decide.{ℕ_discrete}
 use Rattle.digraph.specs.Digraph.{Within}
 use Rattle.digraph.specs.Digraph as digraph
 use Rattle.planarmap.specs.Columns.{FaceStep, FaceGraph}
 use Rattle.planarmap.specs.Columns as plane
 use Rattle.planarmap.specs.Columns.FaceStep.{across, over_root}
 use Rattle.planarmap.proofs.Columns.{face_graph, column_laws}
-use Rattle.sheet.specs.declared.Sheet.{Sheet}
+use Rattle.clauses.specs.declared.Sheet.{Sheet}
 use Rattle.clauses.specs.Darts.{tail_dart, head_dart, opposite}
 use Rattle.sheet.specs.Sound.{Sound, Faces}
 use Rattle.sheet.specs.Levels.{FaceLeads, Column, left_face, right_face}
@@ -22,8 +17,9 @@ use Rattle.sheet.specs.Check.{face, face_count, face_from, face_to, edge_table, 
 use Rattle.soundness.specs.Maps.{map_of}
 use Rattle.soundness.specs.Laws.{Columns}
 use Rattle.counting.proofs.Below.{get_d_tabulated}
+use Rattle.counting.proofs.Paths.{carry}
 use Rattle.soundness.proofs.Darts.{dart, dart_is, dart_kind, dart_below, dart_opposite, edge_below}
-use Rattle.soundness.proofs.Levels.{path_over, circle_over, longest_over, acyclic_says, level_longest}
+use Rattle.soundness.proofs.Levels.{circle_over, longest_over, acyclic_says, level_longest}
 use Rattle.soundness.proofs.Faces.{faces_numbered}
 use Rattle.soundness.proofs.Law.{rotation_of}
 use Rattle.soundness.proofs.Plane.{plane_of}
@@ -110,7 +106,7 @@ module _ {s : Sheet} (S : Sound s) where
   column_longest = level_longest (FaceLeads s (face s)) (face_count s) s.edges (edge_table (face_from s) s) (edge_table (face_to s) s)
       columns_within (listed s (omega (arith, S.limits.edges_least))) (unlisted s)
       (λ z. graph.no_circle (circle_over (to_step s) z)) (right_face (face s) 0)
-      (λ c h. let (k, p) = graph.reached c h in (k, path_over (to_lead s) p))
+      (λ c h. let (k, p) = graph.reached c h in (k, carry (to_lead s) p))
 
   pub columns_of : plane.Column (map_of s) (column s)
   unfolding opposite

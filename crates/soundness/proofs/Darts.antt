@@ -1,13 +1,11 @@
 -- Darts by kind and edge. Assumes nothing.
-use mathlib.Core.Path.{◌≡◌, sym, ◌∙◌, ap, subst}
-use mathlib.Core.Bool.{Bool, true, false, not, cond, not-not}
-use Prim.Native.Nat.{ℕ, ◌*◌, ◌/◌, ◌%◌, ◌<◌}
-use native.Mathlib.Omega.{arith}
-use borrow.Author.Tests.{eqb-true, eqb-false, eq-eqb, ne_eqb}
+use Rattle.std.proofs.Common.{◌≡◌, sym, ◌∙◌, ap, subst, Bool, true, false, not, cond, ℕ, ◌*◌, ◌/◌, ◌%◌, ◌<◌, arith, eqb-true, eq-eqb, ne_eqb, List, refl}
+use Rattle.std.proofs.Math.Bool.{not-not}
+use Rattle.std.proofs.lemmas.Bool.{eqb-false}
 use Rattle.counting.proofs.Iterate.{by_bool}
-use Rattle.sheet.specs.declared.Sheet.{Sheet}
+use Rattle.clauses.specs.declared.Sheet.{Sheet}
 use Rattle.clauses.specs.Darts.{tail_dart, head_dart, is_tail, opposite}
-use Rattle.sheet.specs.Darts.{tail, head, darts, vertex}
+use Rattle.sheet.specs.Darts.{tail, head, darts, vertex, sheet_of}
 
 -- the dart of edge k at its tail, or at its head
 abbrev pub dart : Bool → ℕ → ℕ
@@ -59,3 +57,7 @@ opposite_opposite = each_dart (λ d. opposite (opposite d) ≡ d)
 pub opposite_kind : (d : ℕ) → is_tail (opposite d) ≡ not (is_tail d)
 opposite_kind = each_dart (λ d. is_tail (opposite d) ≡ not (is_tail d))
     (λ b k. ap is_tail (dart_opposite b k) ∙ dart_kind (not b) k ∙ ap not (sym (dart_kind b k)))
+
+-- sheets are equal part by part
+pub same_parts : {n n' m m' : ℕ} {t t' h h' x x' : List ℕ} → n ≡ n' → m ≡ m' → t ≡ t' → h ≡ h' → x ≡ x' → sheet_of n m t h x ≡ sheet_of n' m' t' h' x'
+same_parts a b c d e = rw (a, b, c, d, e) refl

@@ -1,15 +1,11 @@
 -- The faces of a sheet, and what the test of Euler's formula says. Assumes nothing.
-use mathlib.Core.Path.{◌≡◌, sym, ◌∙◌, ap}
-use Prim.Native.Nat.{ℕ, ◌+◌, ◌-◌, ◌≤◌, ◌<◌}
-use native.Mathlib.Omega.{arith}
-use mathlib.Core.List.{List, ◌++◌}
-use lib.ListN.{replicate}
+use Rattle.std.proofs.Common.{◌≡◌, sym, ◌∙◌, ap, ℕ, ◌+◌, ◌-◌, ◌≤◌, ◌<◌, arith, List, ◌++◌, replicate}
 use Rattle.counting.specs.Below.{tabulate}
 use Rattle.counting.specs.Orbits.{Perm}
 use Rattle.counting.proofs.Orbits.{orbits_agree, number_unique}
 use Rattle.orbits.specs.Meaning.{entries}
 use Rattle.orbits.proofs.Numbering.{traced_law}
-use Rattle.sheet.specs.declared.Sheet.{Sheet}
+use Rattle.clauses.specs.declared.Sheet.{Sheet}
 use Rattle.clauses.specs.Darts.{opposite}
 use Rattle.sheet.specs.Darts.{darts, walk}
 use Rattle.sheet.specs.Sound.{Faces, Euler}

@@ -1,6 +1,5 @@
 -- The fresh sheet is sound.
-use mathlib.Core.Path.{◌≡◌, refl}
-use mathlib.Core.Bool.{true}
+use Rattle.std.proofs.Common.{◌≡◌, refl, true}
 use Rattle.counting.specs.Below.{all_below, some_below, tabulate}
 use Rattle.orbits.specs.Tables.{traced, trace_from, walk_from, unnumbered_below, is_permutation, permutes_from}
 use Rattle.digraph.specs.Digraph.{flat}

@@ -1,8 +1,6 @@
 -- Soundness test by test; and what load refuses after the last line.
-use mathlib.Core.Path.{◌≡◌}
-use mathlib.Core.Bool.{true}
-use mathlib.Core.List.{[]}
-use Rattle.sheet.specs.declared.Sheet.{Sheet}
+use Rattle.std.proofs.Common.{◌≡◌, true, []}
+use Rattle.clauses.specs.declared.Sheet.{Sheet}
 use Rattle.sheet.specs.Check.{within_limits, joined, in_rings, unused_zero, rooted, acyclic, poles, planar, sound, judge}
 use Rattle.soundness.specs.Laws.{Lined, JudgeLaw}
 use Rattle.soundness.proofs.Tests.{Says, reworded, and_says, itself}

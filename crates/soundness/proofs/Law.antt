@@ -1,14 +1,13 @@
 -- The test of soundness says what soundness is. Assumes nothing.
-use mathlib.Core.Bool.{not}
-use Prim.Native.Nat.{ℕ, ◌<◌}
-use native.Mathlib.Omega.{arith}
-use borrow.Author.Tests.{not-true}
+use Rattle.std.proofs.Common.{not, ℕ, ◌<◌, arith, false, ◌≡◌}
+use Rattle.std.proofs.lemmas.Bool.{not-true, not-false}
 use Rattle.counting.specs.Paths.{Circle}
 use Rattle.digraph.specs.Digraph.{Within}
 use Rattle.digraph.specs.Digraph as digraph
-use Rattle.sheet.specs.declared.Sheet.{Sheet}
+use Rattle.clauses.specs.declared.Sheet.{Sheet}
 use Rattle.sheet.specs.Sound.{Limits, Joins, Leads, Sound}
-use Rattle.sheet.specs.Check.{row_levels, acyclic}
+use Rattle.sheet.specs.Check.{row_levels, acyclic, sound}
+use Rattle.sheet.specs.Darts.{Sized}
 use Rattle.soundness.specs.Laws.{SoundLaw}
 use Rattle.soundness.proofs.Tests.{Says, reworded, not_says}
 use Rattle.soundness.proofs.Judge.{Passed, passed_says}
@@ -82,3 +81,7 @@ sound_law s z = reworded (passed_says s) to_sound to_passed
       bars = (poles_law s S.limits.vertices_least).1 S.poles;
       two = (planar_law s S.limits.edges_most (rotation_of S)).1 S.euler;
     }
+
+-- a sheet that no call refuses as not sound
+pub was_sound : (s : Sheet) → Sized s → not (sound s) ≡ false → Sound s
+was_sound s z e = (sound_law s z).0 (not-false (sound s) e)

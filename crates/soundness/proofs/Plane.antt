@@ -1,12 +1,8 @@
 -- A sound sheet is a plane map.
-use mathlib.Core.Path.{◌≡◌, refl, sym, ◌∙◌, ap}
-use mathlib.Core.Logic.{inl, inr}
-use mathlib.Core.Bool.{Bool, true, false, not, cond}
-use Prim.Native.Nat.{ℕ, ◌<◌}
-use native.Mathlib.Omega.{arith}
+use Rattle.std.proofs.Common.{◌≡◌, refl, sym, ◌∙◌, ap, inl, inr, Bool, true, false, not, cond, ℕ, ◌<◌, arith}
 use Rattle.counting.proofs.Iterate.{clash, either}
 use Rattle.planarmap.specs.Map.{Bipolar, Plane}
-use Rattle.sheet.specs.declared.Sheet.{Sheet}
+use Rattle.clauses.specs.declared.Sheet.{Sheet}
 use Rattle.clauses.specs.Darts.{is_tail, opposite}
 use Rattle.sheet.specs.Darts.{tail, head, darts, vertex}
 use Rattle.sheet.specs.Sound.{Sound}

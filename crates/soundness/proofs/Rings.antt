@@ -1,17 +1,12 @@
 -- What the test of rings says. Assumes nothing.
-use mathlib.Core.Path.{◌≡◌, refl, sym, ◌∙◌, ap}
-use mathlib.Core.Bool.{Bool, true, false}
-use Prim.Native.Nat.{ℕ, suc, ◌+◌, ◌*◌, ◌≤◌, ◌<◌}
-use native.Mathlib.Nat.{mul-suc, mul_comm}
-use native.Mathlib.Omega.{arith}
-use lib.ListN.{get_or}
+use Rattle.std.proofs.Common.{◌≡◌, refl, sym, ◌∙◌, ap, Bool, true, false, ℕ, suc, ◌+◌, ◌*◌, ◌≤◌, ◌<◌, mul-suc, mul_comm, arith, get_or}
 use Rattle.counting.specs.Orbits.{Perm, iter, Reach}
 use Rattle.counting.proofs.Iterate.{iter_add, iter_period}
 use Rattle.orbits.specs.Tables.{traced}
 use Rattle.orbits.specs.Meaning.{Numbering}
 use Rattle.orbits.proofs.Numbering.{traced_law}
 use Rattle.orbits.proofs.Distinct.{permutation_law}
-use Rattle.sheet.specs.declared.Sheet.{Sheet}
+use Rattle.clauses.specs.declared.Sheet.{Sheet}
 use Rattle.sheet.specs.Darts.{darts, vertex, next}
 use Rattle.sheet.specs.Sound.{Joins, Ring}
 use Rattle.sheet.specs.Check.{in_rings}

@@ -1,11 +1,9 @@
 -- Rows of a sound sheet.
-use mathlib.Core.Path.{refl}
-use Prim.Native.Nat.{ℕ, suc, ◌<◌}
-use native.Mathlib.Omega.{arith}
+use Rattle.std.proofs.Common.{refl, ℕ, suc, ◌<◌, arith}
 use Rattle.counting.specs.Paths.{Path}
 use Rattle.counting.specs.Paths.Path.{more}
 use Rattle.counting.proofs.Paths.{rank_path, short, reached}
-use Rattle.sheet.specs.declared.Sheet.{Sheet}
+use Rattle.clauses.specs.declared.Sheet.{Sheet}
 use Rattle.sheet.specs.Darts.{tail, head}
 use Rattle.sheet.specs.Sound.{Leads, Sound}
 use Rattle.sheet.specs.Levels.{Row}

@@ -1,13 +1,11 @@
 -- What a test says, clause by clause, and laws of the tests over the numbers below n. Assumes nothing.
-use mathlib.Core.Path.{◌≡◌, refl, ap}
-use mathlib.Core.Logic.{◌↔◌, ◌⊎◌, inl, inr, by_cases}
-use mathlib.Core.Bool.{Bool, true, false, not, ◌&&◌, ◌||◌, beq, false≢true, and-eq-true_iff}
-use Prim.Native.Nat.{ℕ, zero, suc, ◌≤◌, ◌<◌}
-use native.Mathlib.Decide.{ℕ_discrete}
-use native.Mathlib.Omega.{arith}
-use lib.Dec.{eqb, ltb, leb}
-use borrow.Author.Tests.{ltb-true, leb-true, eqb-true, lt-ltb, le-leb, eq-eqb}
+use Rattle.std.proofs.Common.{◌≡◌, refl, ap, ◌↔◌, ◌⊎◌, inl, inr, Bool, true, false, not, ◌&&◌, ◌||◌, ℕ, zero, suc, ◌≤◌, ◌<◌, arith, eqb, ltb, leb, ltb-true, leb-true, eqb-true, lt-ltb, le-leb, eq-eqb}
+use Rattle.std.proofs.Math.Logic.{by_cases}
+use Rattle.std.proofs.lemmas.Bool.{false≢true, not-true, false_from_ne_true}
+use Rattle.std.proofs.Math.Bool.{beq, and-eq-true_iff}
+use Rattle.std.proofs.Math.Decide.{ℕ_discrete}
 use Rattle.counting.specs.Below.{all_below, some_below}
+use Rattle.counting.proofs.Iterate.{clash}
 
 -- ---- what a test says
 
@@ -36,17 +34,8 @@ and_says {a} {b} x y = (
   λ (p, q). (and-eq-true_iff a b).1 (x.1 p, y.1 q),
 )
 
--- a test that fails
-fails : {b : Bool} {P : Type 0} → Says b P → ¬ P → b ≡ false
-fails {b = true} x n = absurd (n (x.0 refl))
-fails {b = false} x n = refl
-
 pub not_says : {b : Bool} {P : Type 0} → Says b P → Says (not b) (¬ P)
-not_says {b} x = (λ t p. apart b t (x.1 p), λ n. ap not (fails x n))
-  where
-    apart : (b : Bool) → not b ≡ true → b ≡ true → ⊥
-    apart true t u = false≢true t
-    apart false t u = false≢true u
+not_says {b} x = (λ t p. clash (x.1 p) (not-true b t), λ n. ap not (false_from_ne_true b (λ t. n (x.0 t))))
 
 pub or_says : {a b : Bool} {P Q : Type 0} → Says a P → Says b Q → Says (a || b) (P ⊎ Q)
 or_says {a = true} x y = (λ _. inl (x.0 refl), λ _. refl)

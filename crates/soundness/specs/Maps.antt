@@ -1,7 +1,7 @@
 -- A sheet read as a map of darts, with any rows; and with its own.
 use Rattle.std.specs.Prelude.{ℕ}
 use Rattle.planarmap.specs.Map.{Map}
-use Rattle.sheet.specs.declared.Sheet.{Sheet}
+use Rattle.clauses.specs.declared.Sheet.{Sheet}
 use Rattle.clauses.specs.Darts.{opposite, is_tail}
 use Rattle.sheet.specs.Darts.{darts, next, vertex}
 use Rattle.sheet.specs.Check.{face_count, face, row}

@@ -1,10 +1,7 @@
 -- The last edge is taken out (take out a wire): it was added. Assumes nothing.
-use mathlib.Core.Path.{◌≡◌, sym, ◌∙◌, ap, subst}
-use mathlib.Core.Logic.{◌≢◌, by_cases}
-use mathlib.Core.Bool.{true, false}
-use Prim.Native.Nat.{ℕ, suc, ◌<◌}
-use native.Mathlib.Decide.{ℕ_discrete}
-use native.Mathlib.Omega.{arith}
+use Rattle.std.proofs.Common.{◌≡◌, sym, ◌∙◌, ap, subst, ◌≢◌, true, false, ℕ, suc, ◌<◌, arith}
+use Rattle.std.proofs.Math.Logic.{by_cases}
+use Rattle.std.proofs.Math.Decide.{ℕ_discrete}
 use Rattle.counting.specs.Orbits.{Perm, Orbits}
 use Rattle.counting.proofs.Iterate.{clash}
 use Rattle.counting.proofs.Lowest.{lowest_orbits, orbits_by_count}

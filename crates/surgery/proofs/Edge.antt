@@ -1,10 +1,8 @@
 -- A new edge: its two darts are put into the orbits of φ, and so an orbit of φ after `opposite` is split, or two are merged.
 -- With φ = next these are the vertices and the faces, with φ = walk the faces and the vertices. Assumes nothing.
-use mathlib.Core.Path.{◌≡◌, sym, ◌∙◌, ap}
-use mathlib.Core.Logic.{◌≢◌, by_cases}
-use Prim.Native.Nat.{ℕ, suc, ◌<◌}
-use native.Mathlib.Decide.{ℕ_discrete}
-use native.Mathlib.Omega.{arith}
+use Rattle.std.proofs.Common.{◌≡◌, sym, ◌∙◌, ap, ◌≢◌, ℕ, suc, ◌<◌, arith}
+use Rattle.std.proofs.Math.Logic.{by_cases}
+use Rattle.std.proofs.Math.Decide.{ℕ_discrete}
 use Rattle.counting.specs.Orbits.{Perm, Orbits}
 use Rattle.counting.proofs.Reach.{before}
 use Rattle.counting.proofs.Lowest.{orbit_count, orbit_of, lowest_orbits}

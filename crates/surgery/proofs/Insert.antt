@@ -1,10 +1,7 @@
 -- New darts put into the orbits of a permutation keep their number. Assumes nothing.
-use mathlib.Core.Path.{◌≡◌, refl, sym, ◌∙◌, ap, subst}
-use mathlib.Core.Logic.{◌≢◌, by_cases, ite, if_pos, if_neg}
-use Prim.Native.Nat.{ℕ, suc, ◌<◌}
-use native.Mathlib.Nat.{le_antisymm}
-use native.Mathlib.Decide.{ℕ_discrete}
-use native.Mathlib.Omega.{arith}
+use Rattle.std.proofs.Common.{◌≡◌, refl, sym, ◌∙◌, ap, subst, ◌≢◌, ℕ, suc, ◌<◌, le_antisymm, arith}
+use Rattle.std.proofs.Math.Logic.{by_cases, ite, if_pos, if_neg}
+use Rattle.std.proofs.Math.Decide.{ℕ_discrete}
 use Rattle.counting.specs.Orbits.{Perm, Orbits}
 use Rattle.counting.proofs.Orbits.{kept_joined, number_le}
 use Rattle.counting.proofs.Lowest.{orbit_count, orbit_of, lowest_orbits}

@@ -1,11 +1,8 @@
 -- A renumbering of darts and vertices keeps all laws of a map. Assumes nothing.
-use mathlib.Core.Path.{◌≡◌, refl, sym, ◌∙◌, ap, subst}
-use mathlib.Core.Logic.{◌≢◌, by_cases}
-use Prim.Native.Nat.{ℕ, ◌<◌}
-use native.Mathlib.Decide.{ℕ_discrete}
-use native.Mathlib.Omega.{arith}
+use Rattle.std.proofs.Common.{◌≡◌, refl, sym, ◌∙◌, ap, subst, ◌≢◌, ℕ, ◌<◌, arith, eq-eqb, ne_eqb}
+use Rattle.std.proofs.Math.Logic.{by_cases}
+use Rattle.std.proofs.Math.Decide.{ℕ_discrete}
 use Rattle.counting.specs.Orbits.{Perm, Bijection, Orbits}
-use Rattle.counting.proofs.Counts.{eqb_same, eqb_other}
 use Rattle.counting.proofs.Orbits.{number_unique, renumbered_perm, renumbered_orbits}
 use Rattle.planarmap.specs.Map.{Map, walk, Bipolar}
 use Rattle.surgery.specs.Renumber.{Renumbered, renumber, exchange}
@@ -147,15 +144,15 @@ renumber_plane {M} {σ} {τ} {ρ} {π} P darts vertices source sink = renumbered
 module _ (i j : ℕ) where
   pub exchange_first : exchange i j i ≡ j
   unfolding exchange
-  exchange_first = rw (eqb_same i)
+  exchange_first = rw (eq-eqb i i refl)
 
   pub exchange_other : {d : ℕ} → d ≢ i → d ≢ j → exchange i j d ≡ d
   unfolding exchange
-  exchange_other n m = rw (eqb_other n, eqb_other m)
+  exchange_other n m = rw (ne_eqb _ _ n, ne_eqb _ _ m)
 
   pub exchange_second : exchange i j j ≡ i
   unfolding exchange
-  exchange_second = by_cases (ℕ_discrete j i) (λ e. ap (exchange i j) e ∙ exchange_first ∙ e) (λ e. rw (eqb_other e, eqb_same j))
+  exchange_second = by_cases (ℕ_discrete j i) (λ e. ap (exchange i j) e ∙ exchange_first ∙ e) (λ e. rw (ne_eqb j i e, eq-eqb j j refl))
 
   -- so it is its own inverse
   exchange_back : (d : ℕ) → exchange i j (exchange i j d) ≡ d

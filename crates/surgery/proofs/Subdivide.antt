@@ -1,10 +1,7 @@
 -- A vertex is put into an edge (put in): seen from the walk, an edge is added inside a vertex. Assumes nothing.
-use mathlib.Core.Path.{◌≡◌, sym, ◌∙◌, ap, subst}
-use mathlib.Core.Logic.{◌≢◌, by_cases, ite, if_pos, if_neg}
-use mathlib.Core.Bool.{true, false, not}
-use Prim.Native.Nat.{ℕ, suc, ◌+◌, ◌<◌}
-use native.Mathlib.Decide.{ℕ_discrete}
-use native.Mathlib.Omega.{arith}
+use Rattle.std.proofs.Common.{◌≡◌, sym, ◌∙◌, ap, subst, ◌≢◌, true, false, not, ℕ, suc, ◌+◌, ◌<◌, arith}
+use Rattle.std.proofs.Math.Logic.{by_cases, ite, if_pos, if_neg}
+use Rattle.std.proofs.Math.Decide.{ℕ_discrete}
 use Rattle.counting.specs.Orbits.{Perm, Orbits}
 use Rattle.counting.proofs.Iterate.{clash}
 use Rattle.counting.proofs.Reach.{before}

@@ -1,10 +1,7 @@
 -- What two darts are sent to is swapped: an orbit that holds both is split, two orbits that hold one each are merged. Assumes nothing.
-use mathlib.Core.Path.{◌≡◌, refl, sym, ◌∙◌, ap, subst}
-use mathlib.Core.Logic.{◌≢◌, ◌⊎◌, inl, inr, by_cases, ite, if_pos, if_neg}
-use Prim.Native.Nat.{ℕ, zero, suc, ◌+◌, ◌-◌, ◌≤◌, ◌<◌}
-use native.Mathlib.Nat.{le_antisymm}
-use native.Mathlib.Decide.{ℕ_discrete}
-use native.Mathlib.Omega.{arith}
+use Rattle.std.proofs.Common.{◌≡◌, refl, sym, ◌∙◌, ap, subst, ◌≢◌, ◌⊎◌, inl, inr, ℕ, zero, suc, ◌+◌, ◌-◌, ◌≤◌, ◌<◌, le_antisymm, arith}
+use Rattle.std.proofs.Math.Logic.{by_cases, ite, if_pos, if_neg}
+use Rattle.std.proofs.Math.Decide.{ℕ_discrete}
 use Rattle.counting.specs.Orbits.{Perm, iter, Reach, Orbits}
 use Rattle.counting.proofs.Pigeonhole.{Found, at, nowhere, find}
 use Rattle.counting.proofs.Iterate.{iter_add}

@@ -1,12 +1,6 @@
 -- A trial: the edits and a renumbering of small maps, with every hypothesis met; the numbers of faces are computed. Assumes nothing.
-use mathlib.Core.Path.{◌≡◌, refl, sym}
-use mathlib.Core.Logic.{◌≢◌}
-use mathlib.Core.Bool.{Bool, true, false, not, true≢false}
-use mathlib.Core.List.{List, [], ◌∷◌}
-use Prim.Native.Nat.{ℕ, suc, ◌<◌}
-use native.Mathlib.Decide.{ℕ_discrete}
-use native.Mathlib.Omega.{arith}
-use lib.ListN.{get_or}
+use Rattle.std.proofs.Common.{◌≡◌, refl, sym, ◌≢◌, Bool, true, false, not, true≢false, List, [], ◌∷◌, ℕ, suc, ◌<◌, arith, get_or}
+use Rattle.std.proofs.Math.Decide.{ℕ_discrete}
 use Rattle.counting.specs.Counts.{count}
 use Rattle.counting.specs.Orbits.{Perm}
 use Rattle.counting.proofs.Lowest.{orbit_count, low, orbits_by_count}

@@ -1,73 +1,34 @@
--- What take out an edge answers, test by test; and what acceptance says. Assumes nothing.
-use Rattle.std.specs.Prelude.{Ok, Err}
-use Prim.Native.Nat.{ℕ, ◌≤◌, ◌<◌}
-use mathlib.Core.Path.{◌≡◌, refl, ◌∙◌, ap}
-use mathlib.Core.Logic.{◌≢◌}
-use mathlib.Core.Bool.{true, false, not}
-use lib.Dec.{eqb}
-use lib.ListN.{get_or}
-use borrow.Author.Tests.{le-leb, lt-leb, eq-eqb, ne_eqb}
+-- The degrees at the ends of an edge, as they are counted; and what acceptance says. Assumes nothing.
+use Rattle.std.proofs.Common.{Ok, leb-false, ℕ, ◌≤◌, ◌<◌, ◌≡◌, ◌∙◌, ap, true, not, eqb, List, length, get_or, take, get_or-take, length-take-le}
+use Rattle.std.proofs.lemmas.Bool.{not-false}
+use Rattle.counting.proofs.Counts.{count_agree}
 use Rattle.counting.specs.Counts.{count}
-use Rattle.answers.specs.declared.Refusal.TheVariants.{NotSound, NotInSheet, RootEdge, EdgeNeeded}
+use Rattle.answers.specs.declared.Refusal.TheVariants.{NotSound, NotInSheet}
 use Rattle.answers.specs.Answers.{refusal_number}
-use Rattle.answers.specs.Refusals.{first}
-use Rattle.sheet.specs.declared.Sheet.{Sheet}
+use Rattle.clauses.specs.declared.Sheet.{Sheet}
 use Rattle.sheet.specs.Check.{sound}
-use Rattle.sheet.specs.Darts.{Sized, tail, head}
-use Rattle.counting.proofs.Iterate.{not-false}
+use Rattle.sheet.specs.Darts.{Sized}
+use Rattle.std.proofs.lemmas.Bool.{not-false}
 use Rattle.soundness.proofs.Law.{sound_law}
 use Rattle.answers.proofs.Refusals.{passed}
-use Rattle.preservation.proofs.Accepted.{not_at_most}
 use Rattle.edit.specs.Calls.{no_edge, out_degree, in_degree, take_out_edge_answer}
 
 -- a sound sheet has at most 256 edges
 pub few_edges : (s : Sheet) → Sized s → sound s ≡ true → s.edges ≤ 256
 few_edges s z S = ((sound_law s z).0 S).limits.edges_most
 
-module _ (s : Sheet) (k : ℕ) where
-  -- the degrees at the two ends of edge k, as they are counted
-  pub out_degree_law : (v d : ℕ) → v ≡ tail s k → d ≡ count (λ j. eqb (get_or s.tails j 0) v) s.edges → d ≡ out_degree s (tail s k)
+-- a vertex counted among the ends of the edges of a sheet
+ends_at : (v m : ℕ) (ends : List ℕ) → m ≤ length ends → count (λ k. eqb (get_or (take m ends) k 0) v) (length (take m ends)) ≡ count (λ k. eqb (get_or ends k 0) v) m
+ends_at v m ends h = rw (length-take-le m ends h) (count_agree _ _ m (λ k l. ap (λ (x : ℕ). eqb x v) (get_or-take m ends k 0 l)))
+
+module _ (s : Sheet) (u v d : ℕ) where
+  pub out_degree_law : s.edges ≤ length s.tails → v ≡ u → d ≡ count (λ k. eqb (get_or (take s.edges s.tails) k 0) v) (length (take s.edges s.tails)) → d ≡ out_degree s u
   unfolding out_degree
-  out_degree_law v d e q = q ∙ ap (λ (x : ℕ). count (λ j. eqb (get_or s.tails j 0) x) s.edges) e
+  out_degree_law h e q = q ∙ ends_at v s.edges s.tails h ∙ ap (λ (x : ℕ). count (λ k. eqb (get_or s.tails k 0) x) s.edges) e
 
-  pub in_degree_law : (v d : ℕ) → v ≡ head s k → d ≡ count (λ j. eqb (get_or s.heads j 0) v) s.edges → d ≡ in_degree s (head s k)
+  pub in_degree_law : s.edges ≤ length s.heads → v ≡ u → d ≡ count (λ k. eqb (get_or (take s.edges s.heads) k 0) v) (length (take s.edges s.heads)) → d ≡ in_degree s u
   unfolding in_degree
-  in_degree_law v d e q = q ∙ ap (λ (x : ℕ). count (λ j. eqb (get_or s.heads j 0) x) s.edges) e
-
-  pub not_sound : sound s ≡ false → Err NotSound ≡ take_out_edge_answer s k
-  unfolding take_out_edge_answer first
-  not_sound e = rw e refl
-
-  module _ (S : sound s ≡ true) where
-    pub not_in_sheet : s.edges ≤ k → Err NotInSheet ≡ take_out_edge_answer s k
-    unfolding take_out_edge_answer first
-    not_in_sheet h = rw (S, le-leb s.edges k h) refl
-
-    module _ (h : k < s.edges) where
-      pub is_root : k ≡ 0 → Err RootEdge ≡ take_out_edge_answer s k
-      unfolding take_out_edge_answer first
-      is_root e = rw (S, lt-leb s.edges k h, eq-eqb k 0 e) refl
-
-      module _ (n : k ≢ 0) where
-        pub two_edges : s.edges ≡ 2 → Err EdgeNeeded ≡ take_out_edge_answer s k
-        unfolding take_out_edge_answer first
-        two_edges e = rw (S, lt-leb s.edges k h, ne_eqb k 0 n, eq-eqb s.edges 2 e) refl
-
-        module _ (m : s.edges ≢ 2) where
-          pub only_outgoing : out_degree s (tail s k) ≡ 1 → Err EdgeNeeded ≡ take_out_edge_answer s k
-          unfolding take_out_edge_answer first
-          only_outgoing e = rw (S, lt-leb s.edges k h, ne_eqb k 0 n, ne_eqb s.edges 2 m, eq-eqb (out_degree s (tail s k)) 1 e) refl
-
-          module _ (o : out_degree s (tail s k) ≢ 1) where
-            pub only_incoming : in_degree s (head s k) ≡ 1 → Err EdgeNeeded ≡ take_out_edge_answer s k
-            unfolding take_out_edge_answer first
-            only_incoming e =
-                rw (S, lt-leb s.edges k h, ne_eqb k 0 n, ne_eqb s.edges 2 m, ne_eqb (out_degree s (tail s k)) 1 o, eq-eqb (in_degree s (head s k)) 1 e) refl
-
-            pub accepted : in_degree s (head s k) ≢ 1 → Ok tt ≡ take_out_edge_answer s k
-            unfolding take_out_edge_answer first
-            accepted e =
-                rw (S, lt-leb s.edges k h, ne_eqb k 0 n, ne_eqb s.edges 2 m, ne_eqb (out_degree s (tail s k)) 1 o, ne_eqb (in_degree s (head s k)) 1 e) refl
+  in_degree_law h e q = q ∙ ends_at v s.edges s.heads h ∙ ap (λ (x : ℕ). count (λ k. eqb (get_or s.heads k 0) x) s.edges) e
 
 -- what an accepted call was given
 pub given : (s : Sheet) (k : ℕ) → Sized s → take_out_edge_answer s k ≡ Ok tt → (k < s.edges) × (s.edges ≤ 256)
@@ -75,7 +36,7 @@ unfolding take_out_edge_answer refusal_number
 given s k z e =
     let a = passed NotSound (not (sound s)) _ e in
     let b = passed NotInSheet (no_edge s k) _ a.1 in
-    (not_at_most s.edges k b.0, few_edges s z (not-false (sound s) a.0))
+    (leb-false s.edges k b.0, few_edges s z (not-false (sound s) a.0))
 
--- a law for each answer, and the degrees as they are counted
-pub ruleset answers = (few_edges, out_degree_law, in_degree_law, not_sound, not_in_sheet, is_root, two_edges, only_outgoing, only_incoming, accepted)
+-- what the tests count
+pub ruleset counted = (few_edges, out_degree_law, in_degree_law)

@@ -1,8 +1,7 @@
 -- A whole line by its key, its numbers and its end. Assumes nothing.
 use Rattle.std.proofs.Common.{◌≡◌, ℕ, suc, ◌+◌, ◌<◌, ◌≤◌, Bool, true, false, cond, ◌&&◌, eqb, leb, List, [], ◌∷◌, length, drop, Some, None, Option, refl, arith, eq-eqb, ne_eqb, le-leb}
-use mathlib.Core.Bool.{false≢true}
+use Rattle.std.proofs.lemmas.Bool.{false≢true, lt-leb}
 use Rattle.counting.proofs.Iterate.{by_bool}
-use borrow.Author.Tests.{lt-leb}
 use Rattle.text.specs.declared.Numbers.{Numbers}
 use Rattle.text.specs.Reading.{starts_with, Listed, listed, unlisted, line_end_at, numbers_at, closed, last_closed, line_at, last_line_at, numbers_of}
 use Rattle.text.proofs.LineEnds.{line_end_inside}
@@ -56,11 +55,11 @@ module _ (s : List ℕ) where
   keyless false key at k = rw k
 
 -- a line by the numbers that were read after its key
-abbrev pub ended_by : Bool → List ℕ → Option Numbers → Option Numbers
+abbrev pub ended_by : Bool → List ℕ → Option (Numbers × ℕ) → Option (Numbers × ℕ)
 ended_by last s None = None
-ended_by last s (Some r) =
-    cond (last && leb (length s) r.next) (Some r)
-    (cond (eqb (line_end_at s r.next) 0) None (Some (record { count = r.count; values = r.values; next = r.next + line_end_at s r.next })))
+ended_by last s (Some (r, next)) =
+    cond (last && leb (length s) next) (Some (r, next))
+    (cond (eqb (line_end_at s next) 0) None (Some (r, next + line_end_at s next)))
 
 closing_step : (last : Bool) (s : List ℕ) (l : Listed) → numbers_of (closing last s l) ≡ ended_by last s (numbers_of l)
 unfolding numbers_of closed last_closed
@@ -70,8 +69,15 @@ closing_step false s (listed vs next) = by_bool (eqb (line_end_at s next) 0) (λ
 closing_step true s (listed vs next) =
     by_bool (leb (length s) next) (λ h. rw h refl) (λ h. by_bool (eqb (line_end_at s next) 0) (λ z. rw (h, z) refl) (λ z. rw (h, z) refl))
 
-pub line_steps : (last : Bool) (key s : List ℕ) (at : ℕ) → numbers_of (line_of last key s at) ≡ cond (starts_with key (drop at s)) (ended_by last s (numbers_of (numbers_at s (at + length key)))) None
-unfolding numbers_of
-line_steps last key s at = by_bool (starts_with key (drop at s))
-    (λ t. rw (keyed s last key at t, t) (closing_step last s (numbers_at s (at + length key))))
-    (λ f. rw (keyless s last key at f, f) refl)
+module _ (key s : List ℕ) (at : ℕ) where
+  either_steps : (last : Bool) → numbers_of (line_of last key s at) ≡ cond (starts_with key (drop at s)) (ended_by last s (numbers_of (numbers_at s (at + length key)))) None
+  unfolding numbers_of
+  either_steps last = by_bool (starts_with key (drop at s))
+      (λ t. rw (keyed s last key at t, t) (closing_step last s (numbers_at s (at + length key))))
+      (λ f. rw (keyless s last key at f, f) refl)
+
+  pub line_steps : numbers_of (line_at key s at) ≡ cond (starts_with key (drop at s)) (ended_by false s (numbers_of (numbers_at s (at + length key)))) None
+  line_steps = either_steps false
+
+  pub last_steps : numbers_of (last_line_at key s at) ≡ cond (starts_with key (drop at s)) (ended_by true s (numbers_of (numbers_at s (at + length key)))) None
+  last_steps = either_steps true

@@ -5,17 +5,17 @@ use Rattle.text.specs.Reading.{Listed, numbers_of}
 use Rattle.text.specs.Reading.Listed.{listed, unlisted}
 use Rattle.text.specs.Shapes.{with_one, with_two, with_four, pair_of}
 
-abbrev pub one_by : {A : Type 0} → Option Numbers → A → (ℕ → ℕ → A) → A
+abbrev pub one_by : {A : Type 0} → Option (Numbers × ℕ) → A → (ℕ → ℕ → A) → A
 one_by None bad good = bad
-one_by (Some r) bad good = cond (eqb r.count 1) (good (get_or r.values 0 0) r.next) bad
+one_by (Some (r, next)) bad good = cond (eqb r.count 1) (good (get_or r.values 0 0) next) bad
 
 abbrev pub two_by : {A : Type 0} → Option (ℕ × ℕ × ℕ) → A → (ℕ → ℕ → ℕ → A) → A
 two_by None bad good = bad
 two_by (Some (a, b, next)) bad good = good a b next
 
-abbrev pub four_by : {A : Type 0} → Option Numbers → A → (ℕ → ℕ → ℕ → ℕ → ℕ → A) → A
+abbrev pub four_by : {A : Type 0} → Option (Numbers × ℕ) → A → (ℕ → ℕ → ℕ → ℕ → ℕ → A) → A
 four_by None bad good = bad
-four_by (Some r) bad good = cond (eqb r.count 4) (good (get_or r.values 0 0) (get_or r.values 1 0) (get_or r.values 2 0) (get_or r.values 3 0) r.next) bad
+four_by (Some (r, next)) bad good = cond (eqb r.count 4) (good (get_or r.values 0 0) (get_or r.values 1 0) (get_or r.values 2 0) (get_or r.values 3 0) next) bad
 
 module _ {A : Type 0} (bad : A) where
   pub one_counted : (good : ℕ → ℕ → A) (l : Listed) → with_one l bad good ≡ one_by (numbers_of l) bad good

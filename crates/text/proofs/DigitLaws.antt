@@ -1,9 +1,9 @@
 -- The digit at a place, and the number by the digits that are read. Assumes nothing.
 use Rattle.std.proofs.Common.{◌≡◌, ℕ, ◌+◌, ◌-◌, ◌*◌, ◌<◌, ◌≤◌, List, length, get_or, Some, None, refl, ◌∙◌, subst₂, arith, eq-eqb, ne_eqb, le-leb}
 use Rattle.std.proofs.lemmas.Option.{none-some, some_pair_parts}
-use native.Mathlib.Decide.{dec_lt, ℕ_discrete}
-use borrow.Author.Tests.{lt-leb}
-use lib.ListN.{get_or-eq_default}
+use Rattle.std.proofs.Math.Decide.{dec_lt, ℕ_discrete}
+use Rattle.std.proofs.lemmas.Bool.{lt-leb}
+use Rattle.std.proofs.Math.ListN.{get_or-eq_default}
 use Rattle.text.specs.Reading.{digit_of, digit_at, number_of, number_at}
 
 pub low_digit : (b : ℕ) → b < 48 → digit_of b ≡ 10

@@ -1,7 +1,7 @@
 -- A key at a place, as the library compares it. Assumes nothing.
 use Rattle.std.proofs.Common.{◌≡◌, ℕ, ◌&&◌, eqb, List, [], ◌∷◌, length, take, nat_eq, sym, refl, ne_eqb}
 use lib.Pointwise.{pointwise}
-use native.Mathlib.Decide.{ℕ_discrete}
+use Rattle.std.proofs.Math.Decide.{ℕ_discrete}
 use Rattle.std.proofs.lemmas.List.{take_rest, drop_min}
 use Rattle.text.specs.Reading.{starts_with}
 

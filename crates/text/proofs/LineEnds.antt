@@ -1,7 +1,7 @@
 -- The line end at a place, by the bytes there. Assumes nothing.
 use Rattle.std.proofs.Common.{◌≡◌, ℕ, ◌+◌, ◌≤◌, ◌≢◌, List, length, get_or, refl, arith, eq-eqb, ne_eqb}
-use mathlib.Core.Logic.{by_cases}
-use native.Mathlib.Decide.{ℕ_discrete}
+use Rattle.std.proofs.Math.Logic.{by_cases}
+use Rattle.std.proofs.Math.Decide.{ℕ_discrete}
 use Rattle.text.specs.Reading.{line_end_at}
 use Rattle.text.proofs.DigitLaws.{inside}
 

@@ -1,9 +1,9 @@
 -- Numbers with a comma between, read one after the other. Assumes nothing.
 use Rattle.std.proofs.Common.{◌≡◌, ℕ, zero, suc, ◌+◌, ◌<◌, ◌≤◌, cond, eqb, List, [], ◌∷◌, length, get_or, set, Some, None, Option, sym, refl, ap, ◌∙◌, zero-add, add-one, arith, length-set, eq-eqb, ne_eqb}
-use mathlib.Core.Logic.{by_cases}
-use native.Mathlib.Decide.{ℕ_discrete}
-use lib.ListN.{get_or-eq_default}
-use lib.Seq.{sets, set_out}
+use Rattle.std.proofs.Math.Logic.{by_cases}
+use Rattle.std.proofs.Math.Decide.{ℕ_discrete}
+use Rattle.std.proofs.Math.ListN.{get_or-eq_default}
+use Rattle.std.proofs.Math.Seq.{sets, set_out}
 use Rattle.text.specs.declared.Numbers.{Numbers}
 use Rattle.counting.specs.Choice.{pick}
 use Rattle.text.specs.Reading.{Number, number_at, Listed, listed, unlisted, before, after_number, numbers_from, numbers_at, numbers_of}
@@ -52,8 +52,8 @@ module _ (s : List ℕ) where
   numbers_none at e = numbers_step at ∙ rw e
 
 -- the answer where so many numbers were read before, of which `values` has the first
-pub resume : ℕ → List ℕ → Listed → Option Numbers
-resume count values (listed vs next) = Some (record { count = count + length vs; values = sets values count vs; next = next })
+pub resume : ℕ → List ℕ → Listed → Option (Numbers × ℕ)
+resume count values (listed vs next) = Some (record { count = count + length vs; values = sets values count vs }, next)
 resume count values unlisted = None
 
 sets_out : (l : List ℕ) (i : ℕ) (vs : List ℕ) → length l ≤ i → sets l i vs ≡ l
@@ -80,9 +80,9 @@ resume_before count v values (listed vs next) =
 resume_before count v values unlisted = refl
 
 -- one turn of the loop that reads them
-abbrev pub resume_by : List ℕ → ℕ → List ℕ → Number → Option Numbers
+abbrev pub resume_by : List ℕ → ℕ → List ℕ → Number → Option (Numbers × ℕ)
 resume_by s count values None = None
-resume_by s count values (Some (v, next)) = cond (eqb (get_or s next 0) 44) (resume (count + 1) (set values count v) (numbers_at s (next + 1))) (Some (record { count = count + 1; values = set values count v; next = next }))
+resume_by s count values (Some (v, next)) = cond (eqb (get_or s next 0) 44) (resume (count + 1) (set values count v) (numbers_at s (next + 1))) (Some (record { count = count + 1; values = set values count v }, next))
 
 pub resume_step : (s : List ℕ) (at count : ℕ) (values : List ℕ) → resume count values (numbers_at s at) ≡ resume_by s count values (number_at s at)
 unfolding resume

@@ -1,7 +1,7 @@
 -- Lines of two numbers. Assumes nothing.
 use Rattle.std.proofs.Common.{◌≡◌, ℕ, ◌+◌, cond, eqb, List, [], length, get_or, drop, Some, None, Option, sym, refl, arith, eq-eqb, ne_eqb}
-use mathlib.Core.Logic.{by_cases}
-use native.Mathlib.Decide.{ℕ_discrete}
+use Rattle.std.proofs.Math.Logic.{by_cases}
+use Rattle.std.proofs.Math.Decide.{ℕ_discrete}
 use Rattle.counting.proofs.Iterate.{by_bool}
 use Rattle.text.specs.Reading.{Number, number_at, starts_with, Listed, listed, unlisted, before, line_end_at, numbers_at, closed, line_at}
 use Rattle.text.specs.Shapes.{with_two, pair_of}

@@ -76,7 +76,7 @@ last_closed s unlisted = unlisted
 unfoldable pub last_line_at : List ℕ → List ℕ → ℕ → Listed
 last_line_at key s at = pick (starts_with key (drop at s)) (λ _. last_closed s (numbers_at s (at + length key))) (λ _. unlisted)
 
--- what the reading calls answer: the first four numbers stand for themselves, 0 where there are fewer
-unfoldable pub numbers_of : Listed → Option Numbers
-numbers_of (listed vs next) = Some (record { count = length vs; values = get_or vs 0 0 ∷ get_or vs 1 0 ∷ get_or vs 2 0 ∷ get_or vs 3 0 ∷ []; next = next })
+-- what the reading calls answer, with the place after it: the first four numbers stand for themselves, 0 where there are fewer
+unfoldable pub numbers_of : Listed → Option (Numbers × ℕ)
+numbers_of (listed vs next) = Some (record { count = length vs; values = get_or vs 0 0 ∷ get_or vs 1 0 ∷ get_or vs 2 0 ∷ get_or vs 3 0 ∷ [] }, next)
 numbers_of unlisted = None

@@ -1,76 +1,69 @@
 // Write drawing: the text of a drawing, how long it is, and how it is put into a buffer.
 #![tactic(auto)]
 
-ghost use Rattle.std.specs.Prelude.{◌≡◌, ◌+◌, ◌≤◌, leb, length};
-ghost use Rattle.counting.specs.Below.{join_below};
-ghost use Rattle.drawing.specs.Write.{drawing_text, write_drawing, buffer_after_drawing};
-ghost use Rattle.writedrawing.specs.Inner.{vertex_text, edge_text};
+ghost use Rattle.std.specs.Prelude.{◌≡◌, ◌+◌, ◌≤◌, length};
+ghost use Rattle.drawing.specs.Write.{write_drawing, buffer_after_drawing};
+ghost use Rattle.writedrawing.specs.Inner.{vertices_text, edges_text, segments_text};
 
 use answers::Refusal;
-use buffer::{Count, Sink, Writer};
-use drawing::Drawing;
+use buffer::{Sink, Text};
+use drawing::{EdgeSegment, VertexSegment};
 use sheet::Sheet;
 
-// Puts the lines `bar=` of n vertices: a vertex's row, its first and its last column.
-fn put_vertices<S: Sink>(to: &mut S, n: usize, d: &Drawing)
-    requires few { n ≤ 128 }
-    requires room { S.used to.old + length (join_below (vertex_text d.now) n) ≤ S.size to.old }
-    ensures { S.puts to.old (join_below (vertex_text d.now) n) to.new }
+// Puts the lines `bar=`: a vertex's row, its first and its last column. (One function for these and the lines `wire=` would take a closure for the numbers, and
+// be longer than both.)
+fn put_vertices<S: Sink>(to: &mut S, vertices: &[VertexSegment])
+    requires { S.used to.old + length (vertices_text vertices.now) ≤ S.size to.old }
+    ensures { S.puts to.old (vertices_text vertices.now) to.new }
 {
-    for v in &d.vertices[..n] {
+    for v in vertices {
         buffer::put_line(to, b"bar=", &[v.row, v.first, v.last]);
     }
 }
 
-// Puts the lines `wire=` of m edges: an edge's column, its tail's row and its head's row. (One function for these and the bars would take a closure for the
-// numbers, and be longer than both.)
-fn put_edges<S: Sink>(to: &mut S, m: usize, d: &Drawing)
-    requires few { m ≤ 256 }
-    requires room { S.used to.old + length (join_below (edge_text d.now) m) ≤ S.size to.old }
-    ensures { S.puts to.old (join_below (edge_text d.now) m) to.new }
+// Puts the lines `wire=`: an edge's column, its tail's row and its head's row.
+fn put_edges<S: Sink>(to: &mut S, edges: &[EdgeSegment])
+    requires { S.used to.old + length (edges_text edges.now) ≤ S.size to.old }
+    ensures { S.puts to.old (edges_text edges.now) to.new }
 {
-    for e in &d.edges[..m] {
+    for e in edges {
         buffer::put_line(to, b"wire=", &[e.column, e.low, e.high]);
     }
 }
 
-// Puts the text of a drawing of n vertices and m edges.
-fn put_drawing<S: Sink>(to: &mut S, n: usize, m: usize, d: &Drawing)
-    requires few { (n ≤ 128) × (m ≤ 256) }
-    requires room { S.used to.old + length (drawing_text n m d.now) ≤ S.size to.old }
-    ensures { S.puts to.old (drawing_text n m d.now) to.new }
-{
-    buffer::put_line(to, b"rows=", &[d.rows]);
-    buffer::put_line(to, b"columns=", &[d.columns]);
-    put_vertices(to, n, d);
-    put_edges(to, m, d);
+// What a drawing shows of a sheet: its rows and columns, and a segment for each vertex and edge.
+#[derive(Drop)]
+struct Segments<'a> {
+    rows: u16,
+    columns: u16,
+    vertices: &'a [VertexSegment],
+    edges: &'a [EdgeSegment],
+}
+
+impl Text for Segments<'_> {
+    ghost text = { λ t. segments_text t.rows t.columns t.vertices.now t.edges.now };
+
+    fn put<S: Sink>(&self, to: &mut S) {
+        buffer::put_line(to, b"rows=", &[self.rows]);
+        buffer::put_line(to, b"columns=", &[self.columns]);
+        put_vertices(to, self.vertices);
+        put_edges(to, self.edges);
+    }
 }
 
 // No text of a drawing has more bytes.
 const LONGEST: usize = 6807;
-
-// Whether the text of a drawing of n vertices and m edges has at most `room` bytes. It is measured only where the longest would not fit.
-fn fits(room: usize, n: usize, m: usize, d: &Drawing) -> bool
-    requires { (n ≤ 128) × (m ≤ 256) }
-    ensures { result ≡ leb (length (drawing_text n m d.now)) room }
-{
-    if LONGEST <= room {
-        return true;
-    }
-    let mut text = Count { bytes: 0 };
-    put_drawing(&mut text, n, m, d);
-    text.bytes <= room
-}
 
 // Write drawing: the text of a sheet's drawing, at the front of the buffer. Refused, 9 and then 17, the buffer is untouched.
 pub fn write_drawing(s: Sheet, out: &mut [u8]) -> Result<usize, Refusal>
     ensures { (result ≡ write_drawing s out.old) × (out.new ≡ buffer_after_drawing s out.old) }
 {
     let drawing = draw::draw(s)?;
-    if !fits(out.len(), s.vertices, s.edges, &drawing) {
-        return Err(Refusal::BufferTooShort);
-    }
-    let mut text = Writer { out, filled: 0 };
-    put_drawing(&mut text, s.vertices, s.edges, &drawing);
-    Ok(text.filled)
+    let text = Segments {
+        rows: drawing.rows,
+        columns: drawing.columns,
+        vertices: &drawing.vertices[..s.vertices],
+        edges: &drawing.edges[..s.edges],
+    };
+    buffer::write_front(&text, LONGEST, out).ok_or(Refusal::BufferTooShort)
 }

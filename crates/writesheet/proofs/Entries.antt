@@ -1,6 +1,6 @@
 -- The rings of a sound sheet have an entry for each dart, together, and so its text is short. Assumes nothing.
 use Rattle.std.proofs.Common.{ℕ, zero, suc, ◌+◌, ◌-◌, ◌*◌, ◌/◌, ◌≤◌, ◌<◌, ◌≡◌, refl, ◌∙◌, ◌≢◌, Bool, true, false, [], ◌∷◌, arith, eqb, ltb, length, length-append, eq-eqb}
-use borrow.Author.Tests.{eqb-false}
+use Rattle.std.proofs.lemmas.Bool.{eqb-false}
 use Rattle.counting.specs.Below.{join_below}
 use Rattle.counting.specs.Choice.{pick}
 use Rattle.counting.specs.Counts.{count}
@@ -11,15 +11,21 @@ use Rattle.counting.proofs.Orbits.{kept}
 use Rattle.counting.proofs.Reach.{iter_below, iter_one_one}
 use Rattle.text.specs.Keys.{bars_key, wires_key, around_key}
 use Rattle.buffer.proofs.Writing.{line_short}
-use Rattle.sheet.specs.declared.Sheet.{Sheet}
+use Rattle.clauses.specs.declared.Sheet.{Sheet}
 use Rattle.sheet.specs.Darts.{darts, vertex, next}
 use Rattle.sheet.specs.Sound.{Sound}
-use Rattle.soundness.proofs.Law.{rotation_of}
+use Rattle.sheet.specs.Check.{sound}
+use Rattle.sheet.specs.Darts.{Sized}
+use Rattle.soundness.proofs.Law.{rotation_of, sound_law}
 use Rattle.writesheet.specs.Rings.{ring_from, rotation, lowest_dart}
 use Rattle.writesheet.specs.Inner.{ring_text}
 use Rattle.writesheet.specs.Write.{sheet_text}
 use Rattle.writesheet.proofs.Firsts.{lowest_below_law, lowest_vertex}
 use Rattle.writesheet.proofs.Measure.{edges_short, sheet_size}
+
+-- a sheet that passes the check is sound
+pub sound_of : {s : Sheet} → (sound s ≡ true) × Sized s → Sound s
+sound_of (e, z) = (sound_law _ z).0 e
 
 -- a ring is listed no further than where it returns to its start
 no_return : (n : ℕ) (s : Sheet) (start d j : ℕ) → suc j < length (ring_from n s start d) → iter (next s) (suc j) d ≢ start

@@ -1,16 +1,18 @@
 -- The lowest dart of each vertex, by a table that is filled from the last edge down. Assumes nothing.
-use Rattle.std.proofs.Common.{length-take, ℕ, zero, suc, ◌+◌, ◌*◌, ◌≤◌, ◌<◌, ◌≡◌, refl, sym, ap, ◌∙◌, ◌≢◌, ◌⊎◌, inl, inr, Bool, true, false, cond, List, arith, eqb, get_or, set, length, length-set, take, get_or-set_same, get_or-set_other, get_or-take, eq-eqb, ne_eqb}
-use mathlib.Core.Logic.{by_cases}
-use native.Mathlib.Decide.{ℕ_discrete}
+use Rattle.std.proofs.Common.{ℕ, ◌+◌, ◌*◌, ◌≤◌, ◌<◌, ◌≡◌, refl, sym, ap, ◌∙◌, ◌≢◌, Bool, true, false, List, arith, get_or, set, length, length-set, take, get_or-set_same, get_or-set_other, get_or-take, eq-eqb, ne_eqb}
+use Rattle.std.proofs.Math.Logic.{by_cases}
+use Rattle.std.proofs.Math.Decide.{ℕ_discrete}
 use Rattle.clauses.specs.Darts.{dart_of}
 use Rattle.clauses.proofs.Touching.{touches_tail, touches_head, head_touches}
 use Rattle.counting.specs.Below.{lowest_below}
+use Rattle.counting.proofs.Below.{lowest_found}
 use Rattle.counting.proofs.Iterate.{clash}
-use Rattle.sheet.specs.declared.Sheet.{Sheet}
+use Rattle.clauses.specs.declared.Sheet.{Sheet}
 use Rattle.sheet.specs.Darts.{tail, head, darts, vertex, touches, dart_at, next}
 use Rattle.sheet.specs.Sound.{Sound}
 use Rattle.soundness.proofs.Darts.{dart_vertex}
 use Rattle.soundness.proofs.Law.{rotation_of}
+use Rattle.soundness.proofs.Ends.{touched}
 use Rattle.writesheet.specs.Rings.{ring_from, lowest_dart, rotation}
 use Rattle.writesheet.specs.Inner.{Firsts}
 
@@ -20,22 +22,6 @@ pub record Low (p : ℕ → Bool) (k n w : ℕ) : Type 0 where
   pub below : w < n
   pub passes : p w ≡ true
   pub none : (j : ℕ) → k ≤ j → j < w → p j ≡ false
-
--- the lowest, or none at all
-lowest : (p : ℕ → Bool) (n : ℕ) → Low p 0 n (lowest_below p n) ⊎ ((lowest_below p n ≡ n) × ((j : ℕ) → j < n → p j ≡ false))
-unfolding lowest_below
-lowest p zero = inr (refl, λ j h. absurd (omega arith))
-lowest p (suc n) = go (lowest p n) (p n) refl
-  where
-    go : Low p 0 n (lowest_below p n) ⊎ ((lowest_below p n ≡ n) × ((j : ℕ) → j < n → p j ≡ false)) → (b : Bool) → p n ≡ b
-        → Low p 0 (suc n) (cond (eqb (lowest_below p n) n) (cond (p n) n (suc n)) (lowest_below p n))
-        ⊎ ((cond (eqb (lowest_below p n) n) (cond (p n) n (suc n)) (lowest_below p n) ≡ suc n) × ((j : ℕ) → j < suc n → p j ≡ false))
-    go (inl l) b q = rw (ne_eqb (lowest_below p n) n (omega (arith, l.below))) (inl (record { from = l.from; below = omega (arith, l.below); passes = l.passes; none = l.none }))
-    go (inr (e, none)) true q = rw (eq-eqb (lowest_below p n) n e, q) (inl (record { from = omega arith; below = omega arith; passes = q; none = λ j _ h. none j h }))
-    go (inr (e, none)) false q = rw (eq-eqb (lowest_below p n) n e, q) (inr (refl, λ j h. by_cases (ℕ_discrete j n) (λ x. ap p x ∙ q) (λ x. none j (omega arith))))
-
-lowest_of : (p : ℕ → Bool) (n j : ℕ) → j < n → p j ≡ true → Low p 0 n (lowest_below p n)
-lowest_of p n j h t = elim (lowest p n) [ inl l ↦ l | inr (e, none) ↦ clash t (none j h) ]
 
 module _ (s : Sheet) (k v : ℕ) where
   dart_tail : tail s k ≡ v → dart_at s k v ≡ 2 * k
@@ -79,16 +65,16 @@ module _ (s : Sheet) (k : ℕ) (firsts : List ℕ) (f : Filled s (k + 1) firsts)
               ∙ get_or-set_other firsts a v (2 * k + 1) 0 (λ q. clash (touches_head s.tails s.heads k v (sym (q ∙ ea))) away)
               ∙ f.each v w h (record { from = omega arith; below = low.below; passes = low.passes; none = λ j g m. low.none j (omega arith) m })
 
-module _ {s : Sheet} (S : Sound s) where
-  -- each vertex has an edge
-  touched : (v : ℕ) → v < s.vertices → (k : ℕ) × (k < s.edges) × (touches s k v ≡ true)
-  touched v h =
-      by_cases (ℕ_discrete v 0)
-      (λ e. let (k, l, q) = S.poles.other_sinks v h (omega arith) in (k, l, touches_tail s.tails s.heads k v q))
-      (λ e. let (k, l, q) = S.poles.other_sources v h e in (k, l, touches_head s.tails s.heads k v q))
+-- the front of a table
+pub firsts_front : {s : Sheet} {firsts : List ℕ} → Firsts s firsts → Firsts s (take s.vertices firsts)
+firsts_front {s} {firsts} F = record { each = λ v h. get_or-take s.vertices firsts v 0 h ∙ F.each v h }
 
+module _ {s : Sheet} (S : Sound s) where
   lowest_edge : (v : ℕ) → v < s.vertices → Low (λ k. touches s k v) 0 s.edges (lowest_below (λ k. touches s k v) s.edges)
-  lowest_edge v h = let (k, l, t) = touched v h in lowest_of (λ k. touches s k v) s.edges k l t
+  lowest_edge v h =
+      let (k, l, t) = touched S v h in
+      let (below, passes, none) = lowest_found (λ k. touches s k v) s.edges k l t in
+      record { from = omega arith; below = below; passes = passes; none = λ j _ m. none j m }
 
   pub filled_all : {firsts : List ℕ} → Filled s 0 firsts → Firsts s firsts
   filled_all f = record { each = λ v h. f.each v (lowest_below (λ k. touches s k v) s.edges) (omega (arith, S.limits.vertices_most)) (lowest_edge v h) }
@@ -110,15 +96,12 @@ module _ {s : Sheet} (S : Sound s) where
   next_below d h = (rotation_of S).perm.below d h
 
   -- entry v of those that the vertices have
-  module _ {firsts : List ℕ} (F : Firsts s firsts) (v : ℕ) (h : v < length (take s.vertices firsts)) (first : ℕ) (e : first ≡ get_or (take s.vertices firsts) v 0) where
-    pub ring_inside : v < s.vertices
-    ring_inside = omega (arith, length-take s.vertices firsts)
-
+  module _ {firsts : List ℕ} (n : length firsts ≡ s.vertices) (F : Firsts s firsts) (v : ℕ) (h : v < length firsts) (first : ℕ) (e : first ≡ get_or firsts v 0) where
     first_is : first ≡ lowest_dart s v
-    first_is = e ∙ get_or-take s.vertices firsts v 0 ring_inside ∙ F.each v ring_inside
+    first_is = e ∙ F.each v (omega arith)
 
     pub first_below : first < darts s
-    first_below = omega (arith, first_is, lowest_below_law v ring_inside)
+    first_below = omega (arith, first_is, lowest_below_law v (omega arith))
 
     pub ring_listed : ring_from (darts s) s first first ≡ rotation s v
     unfolding rotation

@@ -1,8 +1,9 @@
 -- What a writer answers, and what it leaves in the buffer. Assumes nothing.
-use Rattle.std.proofs.Common.{ℕ, ◌≤◌, ◌<◌, ◌≡◌, refl, ap, ◌∙◌, true, false, List, zero-add, length, lt-ltb, le-ltb, Result, Ok, Err}
-use lib.Seq.{sets, sets-eq}
-use Rattle.buffer.specs.Sinks.{Put}
-use Rattle.sheet.specs.declared.Sheet.{Sheet}
+use Rattle.std.proofs.Common.{ℕ, ◌≤◌, ◌≡◌, refl, ap, ◌∙◌, true, false, List, zero-add, length, leb, leb-true, leb-false, lt-ltb, le-ltb, Option, Result, Ok, Err, ok_or}
+use Rattle.std.proofs.Math.Seq.{sets, sets-eq}
+use Rattle.buffer.specs.Fronts.{front_filled, front_after}
+use Rattle.counting.proofs.Iterate.{by_bool}
+use Rattle.clauses.specs.declared.Sheet.{Sheet}
 use Rattle.answers.specs.declared.Refusal.TheVariants.{NotSound, BufferTooShort}
 use Rattle.answers.specs.Refusals.{first, answering}
 use Rattle.sheet.specs.Check.{sound}
@@ -18,10 +19,6 @@ module _ (s : Sheet) (text buffer : List ℕ) where
   unfolding write_answer buffer_after first answering
   not_sound e = rw e (refl, refl)
 
-  pub too_short : sound s ≡ true → length buffer < length text → Outcome s text buffer (Err BufferTooShort) buffer
-  unfolding write_answer buffer_after first answering
-  too_short e h = rw (e, lt-ltb (length buffer) (length text) h) (refl, refl)
-
   pub text_put : sound s ≡ true → length text ≤ length buffer → (count : ℕ) → count ≡ length text → (out : List ℕ) → out ≡ sets buffer 0 text
       → Outcome s text buffer (Ok count) out
   unfolding write_answer buffer_after first answering
@@ -29,7 +26,11 @@ module _ (s : Sheet) (text buffer : List ℕ) where
       rw (e, le-ltb (length buffer) (length text) h)
       (ap Ok n, q ∙ sets-eq text buffer 0 (rw zero-add h) ∙ rw zero-add refl)
 
-  -- the same, where a writer has put it at the front of the buffer, and left it so
-  pub front_put : sound s ≡ true → length text ≤ length buffer → {count : ℕ} {out : List ℕ} → Put buffer 0 text out count → (after : List ℕ) → after ≡ out
-      → Outcome s text buffer (Ok count) after
-  front_put e h {count} p after q = text_put e h count (p.place ∙ zero-add (length text)) after (q ∙ p.makes)
+  -- what a text at the front of the buffer gives
+  pub front_written : sound s ≡ true → {count : Option ℕ} → count ≡ front_filled text buffer → {w : Result ℕ Refusal} → w ≡ ok_or count BufferTooShort → {out : List ℕ} → out ≡ front_after text buffer
+      → Outcome s text buffer w out
+  unfolding write_answer buffer_after first answering front_filled front_after
+  front_written e f a o =
+      by_bool (leb (length text) (length buffer))
+      (λ h. rw (e, le-ltb (length buffer) (length text) (leb-true _ _ h)) (a ∙ ap (λ c. ok_or c BufferTooShort) (rw h at f), rw h at o))
+      (λ h. rw (e, lt-ltb (length buffer) (length text) (leb-false _ _ h)) (a ∙ ap (λ c. ok_or c BufferTooShort) (rw h at f), rw h at o))

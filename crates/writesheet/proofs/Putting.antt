@@ -1,20 +1,27 @@
 -- The line of a ring, put dart by dart. Assumes nothing.
-use Rattle.std.proofs.Common.{ℕ, suc, ◌+◌, ◌-◌, ◌/◌, ◌≤◌, ◌<◌, ◌≡◌, refl, ap, ◌∙◌, ◌≢◌, Bool, true, false, List, [], ◌∷◌, ◌++◌, append_assoc, arith, eqb, get_or, length, take, length-append, eq-eqb, ne_eqb}
+use Rattle.std.proofs.Common.{ℕ, suc, ◌+◌, ◌-◌, ◌/◌, ◌≤◌, ◌<◌, ◌≡◌, refl, ap, ◌∙◌, ◌≢◌, Bool, true, false, List, [], ◌∷◌, ◌++◌, append_assoc, arith, eqb, get_or, length, length-take, get_or-take, take, length-append, eq-eqb, ne_eqb}
 use Rattle.counting.specs.Choice.{pick}
-use Rattle.text.specs.Keys.{around_key}
+use Rattle.text.specs.Keys.{wire_key, around_key}
 use Rattle.text.specs.Written.{decimal, line_end, line}
 use Rattle.buffer.proofs.Writing.{others, line_parts}
-use Rattle.sheet.specs.declared.Sheet.{Sheet}
+use Rattle.clauses.specs.declared.Sheet.{Sheet}
 use Rattle.sheet.specs.Darts.{darts, next}
 use Rattle.sheet.specs.Sound.{Sound}
 use Rattle.writesheet.specs.Rings.{ring_from}
-use Rattle.writesheet.specs.Inner.{ring_text, ring_line, Firsts}
+use Rattle.writesheet.specs.Inner.{edge_text, ring_text, ring_line, Firsts}
 use Rattle.writesheet.proofs.Firsts.{ring_listed}
 
 -- the line from a vertex's lowest dart is the vertex's
-pub ring_line_law : {s : Sheet} (S : Sound s) {firsts : List ℕ} → Firsts s firsts → (v : ℕ) → v < length (take s.vertices firsts) → (first : ℕ) → first ≡ get_or (take s.vertices firsts) v 0
+pub ring_line_law : {s : Sheet} (S : Sound s) {firsts : List ℕ} → length firsts ≡ s.vertices → Firsts s firsts → (v : ℕ) → v < length firsts → (first : ℕ) → first ≡ get_or firsts v 0
     → ring_line s first ≡ ring_text s v
-ring_line_law {s} S F v h first e = ap (line around_key) (ring_listed S F v h first e)
+ring_line_law {s} S n F v h first e = ap (line around_key) (ring_listed S n F v h first e)
+
+-- the line of edge k, by its numbers
+pub edge_line_law : (s : Sheet) (k : ℕ) → k < length (take s.edges s.tails) → {a b : ℕ} → a ≡ get_or (take s.edges s.tails) k 0 → b ≡ get_or (take s.edges s.heads) k 0
+    → line wire_key (a ∷ b ∷ []) ≡ edge_text s k
+edge_line_law s k h e f =
+    let z : k < s.edges = omega (arith, length-take s.edges s.tails) in
+    rw (e ∙ get_or-take s.edges s.tails k 0 z, f ∙ get_or-take s.edges s.heads k 0 z) refl
 
 module _ (s : Sheet) (first : ℕ) where
   -- what is left of the line where dart d comes next and n darts may follow

@@ -2,7 +2,7 @@
 use Rattle.std.specs.Prelude.{ℕ, zero, suc, ◌/◌, List, [], ◌∷◌, eqb}
 use Rattle.counting.specs.Below.{lowest_below}
 use Rattle.counting.specs.Choice.{pick}
-use Rattle.sheet.specs.declared.Sheet.{Sheet}
+use Rattle.clauses.specs.declared.Sheet.{Sheet}
 use Rattle.sheet.specs.Darts.{darts, touches, dart_at, next}
 
 -- the wires of the ends from d on, up to where the ring returns to `start`

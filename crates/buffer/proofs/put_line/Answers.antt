@@ -1,12 +1,14 @@
 use Rattle.std.proofs.Common.{◌-◌, ◌∙◌, ap, length, take, drop, arith, take_all}
-use Rattle.buffer.proofs.Writing.{others, others_more, others_room, line_parts, line_size, rest_part}
+use Rattle.text.specs.Written.{line_end}
+use Rattle.buffer.proofs.Parts.{joined_four, room_one, room_two, room_three, room_four}
+use Rattle.buffer.proofs.Writing.{others, others_more, others_room, line_parts, rest_part}
 use Rattle.buffer.proofs.put_line.Goals as goal
 
 pub bytes-requires : goal.bytes-requires
-bytes-requires g c = omega (arith, c.requires.room, line_size c.args.key.now c.args.values.now c.requires.some)
+bytes-requires g c = room_one g.met.S.Sink.counted _ _ _ _ (rw (line_parts _ _ c.requires.some) at c.requires.room)
 
 pub number-requires : goal.number-requires
-number-requires g c = omega (arith, c.requires.room, line_size c.args.key.now c.args.values.now c.requires.some, g.met.S.Sink.counted _ _ _ c.bytes.ensures)
+number-requires g c = room_two g.met.S.Sink.counted _ _ _ _ (rw (line_parts _ _ c.requires.some) at c.requires.room) c.bytes.ensures
 
 pub loop-v-init : goal.loop-v-init
 unfolding others
@@ -18,10 +20,7 @@ put_next-requires g c =
     let counted = g.met.S.Sink.counted in
     omega (
       arith,
-      c.requires.room,
-      line_size c.args.key.now values c.requires.some,
-      counted _ _ _ c.bytes.ensures,
-      counted _ _ _ c.number.ensures,
+      room_three counted _ _ _ _ (rw (line_parts _ _ c.requires.some) at c.requires.room) c.bytes.ensures c.number.ensures,
       counted _ _ _ c.loop-v.invariant,
       others_room (take (length values - 1) (drop 1 values)) c.loop-v.v-index c.loop-v-test.true,
       ap (λ t. length (others t)) (rest_part values),
@@ -32,22 +31,10 @@ loop-v-preserved g c = rw (others_more _ c.loop-v.v-index c.loop-v-test.true) (g
 
 pub byte-requires : goal.byte-requires
 byte-requires g c =
-    let values = c.args.values.now in
-    let counted = g.met.S.Sink.counted in
-    let all = take_all c.loop-v.v-index _ c.loop-v-test.false ∙ rest_part values in
-    omega (
-      arith,
-      c.requires.room,
-      line_size c.args.key.now values c.requires.some,
-      counted _ _ _ c.bytes.ensures,
-      counted _ _ _ c.number.ensures,
-      counted _ _ _ (rw all at c.loop-v.invariant),
-    )
+    let all = take_all c.loop-v.v-index _ c.loop-v-test.false ∙ rest_part c.args.values.now in
+    omega (arith, room_four g.met.S.Sink.counted _ _ _ line_end (rw (line_parts _ _ c.requires.some) at c.requires.room) c.bytes.ensures c.number.ensures (rw all at c.loop-v.invariant))
 
 pub returns : goal.returns
 returns g c =
-    let values = c.args.values.now in
-    let joined = g.met.S.Sink.joined in
-    let all = take_all c.loop-v.v-index _ c.loop-v-test.false ∙ rest_part values in
-    rw (line_parts c.args.key.now values c.requires.some)
-    (joined _ _ _ _ _ (joined _ _ _ _ _ (joined _ _ _ _ _ c.bytes.ensures c.number.ensures) (rw all at c.loop-v.invariant)) c.byte.ensures)
+    let all = take_all c.loop-v.v-index _ c.loop-v-test.false ∙ rest_part c.args.values.now in
+    rw (line_parts _ _ c.requires.some) (joined_four g.met.S.Sink.joined c.bytes.ensures c.number.ensures (rw all at c.loop-v.invariant) c.byte.ensures)

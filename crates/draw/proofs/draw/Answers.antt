@@ -11,39 +11,39 @@ returns-in_err-found c =
     let (n, q) = not_found _ _ c.examine.ensures _ c.in_err-found.was in
     e ∙ ap Err q ∙ not_sound _ n
 
-pub leading_faces-from-requires : goal.leading_faces-from-requires
-leading_faces-from-requires c = edges_in (found (search rules) c.examine.ensures c.in_ok-found.was) (omega arith)
+pub faces_before-from-requires : goal.faces_before-from-requires
+faces_before-from-requires c = edges_in (found (search rules) c.examine.ensures c.in_ok-found.was)
 
-pub leading_faces-to-requires : goal.leading_faces-to-requires
-leading_faces-to-requires c = edges_in (found (search rules) c.examine.ensures c.in_ok-found.was) (omega arith)
+pub faces_after-to-requires : goal.faces_after-to-requires
+faces_after-to-requires c = edges_in (found (search rules) c.examine.ensures c.in_ok-found.was)
 
 pub unwrap-level-requires : goal.unwrap-level-requires
 unwrap-level-requires c =
     let F = found (search rules) c.examine.ensures c.in_ok-found.was in
-    rw (levels_found F c.leading_faces-from.ensures c.leading_faces-to.ensures c.levels.ensures) refl
+    rw (levels_found F c.faces_before-from.ensures c.faces_after-to.ensures c.levels.ensures) refl
 
 pub bounds-level-from : goal.bounds-level-from
 bounds-level-from c =
     let F = found (search rules) c.examine.ensures c.in_ok-found.was in
-    omega (arith, c.from.ensures, first_in (leveled_from F c.leading_faces-from.ensures c.leading_faces-to.ensures c.levels.ensures c.unwrap-level.ensures))
+    omega (arith, c.from.ensures, first_in (leveled_from F c.faces_before-from.ensures c.faces_after-to.ensures c.levels.ensures c.unwrap-level.ensures))
 
 pub columns_beside-columns-requires : goal.columns_beside-columns-requires
 columns_beside-columns-requires c =
     let F = found (search rules) c.examine.ensures c.in_ok-found.was in
-    from_rises (leveled_from F c.leading_faces-from.ensures c.leading_faces-to.ensures c.levels.ensures c.unwrap-level.ensures)
+    from_rises (leveled_from F c.faces_before-from.ensures c.faces_after-to.ensures c.levels.ensures c.unwrap-level.ensures)
 
 pub columns_beside-ends-requires : goal.columns_beside-ends-requires
 columns_beside-ends-requires c =
     let F = found (search rules) c.examine.ensures c.in_ok-found.was in
-    to_rises (leveled_from F c.leading_faces-from.ensures c.leading_faces-to.ensures c.levels.ensures c.unwrap-level.ensures) _ (omega arith)
+    to_rises (leveled_from F c.faces_before-from.ensures c.faces_after-to.ensures c.levels.ensures c.unwrap-level.ensures) _ (omega arith)
 
 pub compose-requires : goal.compose-requires
 compose-requires c =
     let F = found (search rules) c.examine.ensures c.in_ok-found.was in
-    all_small (leveled_from F c.leading_faces-from.ensures c.leading_faces-to.ensures c.levels.ensures c.unwrap-level.ensures) c.from.ensures c.columns_beside-columns.ensures
+    all_small (leveled_from F c.faces_before-from.ensures c.faces_after-to.ensures c.levels.ensures c.unwrap-level.ensures) c.from.ensures c.columns_beside-columns.ensures
 
 pub returns : goal.returns
 returns c =
     let F = found (search rules) c.examine.ensures c.in_ok-found.was in
-    let L = leveled_from F c.leading_faces-from.ensures c.leading_faces-to.ensures c.levels.ensures c.unwrap-level.ensures in
+    let L = leveled_from F c.faces_before-from.ensures c.faces_after-to.ensures c.levels.ensures c.unwrap-level.ensures in
     is_sound _ F.is_so _ (all_laid L c.from.ensures c.columns_beside-columns.ensures c.columns_beside-ends.ensures c.compose.ensures)

@@ -1,7 +1,6 @@
 -- `walnut_levels` meets its contract: the levels are found where there is no circle, and else are 0. Assumes nothing.
-use Rattle.std.proofs.Common.{◌≡◌, ℕ, Bool, true, false, List, is_some, refl, ap, ◌∙◌}
+use Rattle.std.proofs.Common.{◌≡◌, ℕ, Bool, true, false, List, is_some, refl, ap, ◌∙◌, unwrap_or}
 use Rattle.std.specs.Bool.{then_some}
-use Rattle.std.specs.Option.{unwrap_or}
 use Rattle.digraph.specs.Digraph.{flat}
 use Rattle.digraph.proofs.Relaxation.{levels_or_flat}
 use Rattle.exports.proofs.walnut_levels.Goals as goal
@@ -14,5 +13,5 @@ pub returns : goal.returns
 unfolding flat
 returns c = (
   c.is_some.ensures ∙ ap is_some c.levels-found.ensures ∙ some_where _ _,
-  c.unwrap_or-levels.ensures ∙ ap (λ o. unwrap_or o flat) c.levels-found.ensures ∙ levels_or_flat _ _ _ _,
+  c.unwrap_or.ensures ∙ ap (λ o. unwrap_or o flat) c.levels-found.ensures ∙ levels_or_flat _ _ _ _,
 )

@@ -1,9 +1,13 @@
+use Rattle.std.proofs.Common.{arith, rules}
+use Rattle.program.proofs.Bound.{output_bound}
 use Rattle.program.proofs.Cases.{short_buffer, output_put}
 use Rattle.program.proofs.plate.Goals as goal
 
-pub returns-then-buffer-lt-LONGEST : goal.returns-then-buffer-lt-LONGEST
-returns-then-buffer-lt-LONGEST c = short_buffer _ _ c.if-buffer-lt-LONGEST.true
+pub returns-then-buffer-lt-LONGEST_OUTPUT : goal.returns-then-buffer-lt-LONGEST_OUTPUT
+returns-then-buffer-lt-LONGEST_OUTPUT c = short_buffer _ _ c.if-buffer-lt-LONGEST_OUTPUT.true
+
+pub put_output-requires : goal.put_output-requires
+put_output-requires c = omega (arith, output_bound c.args.input.now, c.if-buffer-lt-LONGEST_OUTPUT.false)
 
 pub returns : goal.returns
-returns c =
-    output_put _ _ c.if-buffer-lt-LONGEST.false _ c.put_output.ensures.0 _ c.put_output.ensures.1
+returns c = output_put _ _ c.if-buffer-lt-LONGEST_OUTPUT.false c.put_output.ensures.0 _ (search rules)

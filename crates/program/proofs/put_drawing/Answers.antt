@@ -1,15 +1,15 @@
-use Rattle.std.proofs.Common.{◌≡◌, ◌+◌, ◌∙◌, ap, arith, length}
-use Rattle.std.specs.Result.{result_unwrap_or}
-use Rattle.drawing.specs.Write.{drawing_text_of}
-use Rattle.program.proofs.Put.{drawing_count, drawing_left}
+use Rattle.std.proofs.Common.{◌+◌, refl, ap, arith}
+use Rattle.program.proofs.Put.{drawing_fits, drawing_count, drawing_left}
 use Rattle.program.proofs.put_drawing.Goals as goal
 
-pub overflow_add-result : goal.overflow_add-result
-overflow_add-result c =
-    let counted : c.unwrap_or.result ≡ length (drawing_text_of c.args.s) = c.unwrap_or.ensures ∙ ap (λ r. result_unwrap_or r 0) (drawing_count _ c.requires.0 c.args.out.now _ c.requires.1 _ c.write_drawing.ensures.0) in
-    omega (arith, counted, c.requires.1)
+pub unwrap-requires : goal.unwrap-requires
+unwrap-requires c = rw (drawing_fits _ c.requires.sound _ _ c.requires.room _ c.write_drawing.ensures.0) refl
+
+pub overflow_add-to : goal.overflow_add-to
+overflow_add-to c =
+    omega (arith, c.requires.room, drawing_count _ c.requires.sound _ _ c.requires.room _ c.write_drawing.ensures.0 _ c.unwrap.ensures)
 
 pub returns : goal.returns
 returns c =
-    let counted : c.unwrap_or.result ≡ length (drawing_text_of c.args.s) = c.unwrap_or.ensures ∙ ap (λ r. result_unwrap_or r 0) (drawing_count _ c.requires.0 c.args.out.now _ c.requires.1 _ c.write_drawing.ensures.0) in
-    (ap (λ n. c.args.at + n) counted, drawing_left _ c.requires.0 _ _ c.requires.1 _ c.write_drawing.ensures.1)
+    let count = drawing_count _ c.requires.sound _ _ c.requires.room _ c.write_drawing.ensures.0 _ c.unwrap.ensures in
+    (record { place = ap (λ n. c.args.to.now.filled + n) count; makes = drawing_left _ c.requires.sound _ _ c.requires.room _ c.write_drawing.ensures.1 }, refl)

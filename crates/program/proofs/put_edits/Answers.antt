@@ -1,16 +1,17 @@
-use Rattle.std.proofs.Common.{◌≤◌, ◌∙◌, length, arith}
-use Rattle.buffer.proofs.Writing.{left_all}
-use Rattle.program.proofs.Turns.{lines, lines_room, taken_some, taken_most, made_whole, accepted_turn, refused_room, refused_turn, end_room, end_put}
+-- `put_edits` meets its contract: in the loop the rest of the output is left to put. Assumes nothing.
+use Rattle.std.proofs.Common.{◌∙◌, ap, length, arith}
+use Rattle.buffer.specs.Sinks.{put_joined, put_size}
+use Rattle.program.proofs.Edits.{lines_over}
+use Rattle.program.proofs.Turns.{taken_some, taken_most, made_whole, accepted_turn, refused_turn, refused_size}
 use Rattle.program.proofs.put_edits.Goals as goal
 use Rattle.program.proofs.put_edits.Goals.{in-Ok, in-Err}
 
 pub loop-at-init : goal.loop-at-init
-loop-at-init c = (c.requires.0, left_all _ _ _)
+loop-at-init c = (c.requires.sound, c.requires.room, λ last p. p)
 
-pub put_refused-end-requires : goal.put_refused-end-requires
-put_refused-end-requires c =
-    let room : length (lines c.args.input.now c.args.s c.args.start) ≤ length c.args.out.now = lines_room c.args.input.now _ c.args.start c.requires.0 _ c.requires.1 in
-    refused_room c.args.input.now _ c.loop-at-test.true _ _ c.read_edit-read.ensures _ c.apply.ensures c.loop-at.invariant.1 _ c.in-Err.is room
+pub put_refused-requires : goal.put_refused-requires
+put_refused-requires c =
+    omega (arith, c.loop-at.invariant.1, refused_size c.args.input.now _ c.loop-at-test.true _ _ c.read_edit-read.ensures _ c.apply.ensures _ c.in-Err.is)
 
 pub overflow_add-at : goal.overflow_add-at
 overflow_add-at c = omega (arith, taken_most c.args.input.now _ c.loop-at-test.true c.loop-at.sheet _ c.read_edit-read.ensures)
@@ -29,15 +30,20 @@ loop-at-preserved c =
     let ee = c.apply.ensures in
     let inv = c.loop-at.invariant in
     elim c.match-apply.branch [
-      | in-Ok w ↦ rw (w.sheet-is, w.out-is, w.end-is) (made_whole input _ h _ _ er _ ee inv.0 _ w.in-Ok.is, accepted_turn input _ h _ _ er _ ee inv.1 _ w.in-Ok.is)
-      | in-Err w ↦ rw w.sheet-is (inv.0, refused_turn input _ h _ _ er _ ee inv.1 _ w.in-Err.is (w.end-is ∙ w.put_refused-end.ensures.0) (w.out-is ∙ w.put_refused-end.ensures.1))
+      | in-Ok w ↦
+          let left = accepted_turn input _ h _ _ er _ ee _ w.in-Ok.is in
+          rw (w.sheet-is, w.to-is) (made_whole input _ h _ _ er _ ee inv.0 _ w.in-Ok.is, rw left at inv.1, λ last p. inv.2 last (rw left p))
+      | in-Err w ↦
+          let put = w.put_refused.ensures in
+          rw (w.sheet-is, w.to-is) (
+            inv.0,
+            omega (arith, inv.1, refused_size input _ h _ _ er _ ee _ w.in-Err.is, put.0.place, put_size put.0),
+            λ last p. inv.2 last (rw (refused_turn input _ h _ _ er _ ee _ w.in-Err.is) (put_joined put.0 p.0, p.1 ∙ put.1)),
+          )
     ]
 
-pub put_drawing-requires : goal.put_drawing-requires
-put_drawing-requires c =
-    let room : length (lines c.args.input.now c.args.s c.args.start) ≤ length c.args.out.now = lines_room c.args.input.now _ c.args.start c.requires.0 _ c.requires.1 in
-    (c.loop-at.invariant.0, end_room c.args.input.now _ c.loop-at-test.false _ c.loop-at.invariant.1 room)
+pub put_drawing-requires-clause-room : goal.put_drawing-requires-clause-room
+put_drawing-requires-clause-room c = omega (arith, c.loop-at.invariant.1, ap length (lines_over c.args.input.now _ c.loop-at.sheet c.loop-at-test.false))
 
 pub returns : goal.returns
-returns c =
-    end_put c.args.input.now _ c.loop-at-test.false _ c.loop-at.invariant.1 c.put_drawing.ensures.0 c.put_drawing.ensures.1
+returns c = c.loop-at.invariant.2 c.put_drawing.new.to (rw (lines_over c.args.input.now _ _ c.loop-at-test.false) c.put_drawing.ensures)

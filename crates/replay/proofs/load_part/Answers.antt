@@ -1,4 +1,4 @@
-use mathlib.Core.Path.{◌∙◌, ap}
+use Rattle.std.proofs.Common.{◌∙◌, ap}
 use Rattle.load.specs.Load.{load}
 use Rattle.replay.proofs.Parts.{part_is}
 use Rattle.replay.proofs.load_part.Goals as goal

@@ -12,14 +12,16 @@ of-darts-requires c =
 pub start-sorting-requires : goal.start-sorting-requires
 start-sorting-requires c =
     let (few, T, H) = c.requires in
-    (omega arith, H.few, λ k l. omega (arith, H.inside k l))
+    let (en, em, _, et) = c.digraph.ensures in
+    (omega (arith, en), rw (em, et) (record { few = H.few; inside = λ k l. omega (arith, few, H.inside k l) }))
 
 pub settle-requires : goal.settle-requires
 settle-requires c =
     let (few, T, H) = c.requires in
+    let (gn, gm, _, gt) = c.digraph.ensures in
     let (ec, ea, en, D, E) = c.of-darts.ensures in
     let s = c.start-sorting.ensures in
-    underway few T H _ ec (ea ∙ c.places.ensures) D E _ s.waiting s.queued s.level
+    underway few T H _ ec (ea ∙ c.places.ensures) D E _ (rw (gm, gt) at s.waiting) (rw gn at s.queued) s.level
 
 pub returns-then-not-settle : goal.returns-then-not-settle
 returns-then-not-settle c =
@@ -30,7 +32,9 @@ returns-then-not-settle c =
 pub returns : goal.returns
 returns c =
     let (few, T, H) = c.requires in
+    let (gn, gm, _, gt) = c.digraph.ensures in
     let (ec, ea, en, D, E) = c.of-darts.ensures in
     let s = c.start-sorting.ensures in
     let O = c.settle.ensures.rings c.if-not-settle.false in
-    c.then_some.ensures ∙ rw en at (answer few T H c.of-darts.result ec (ea ∙ c.places.ensures) D E c.start-sorting.result s.waiting s.queued s.level c.settle.new.sorting O)
+    c.then_some.ensures
+    ∙ rw en at (answer few T H c.of-darts.result ec (ea ∙ c.places.ensures) D E c.start-sorting.result (rw (gm, gt) at s.waiting) (rw gn at s.queued) s.level c.settle.new.sorting O)

@@ -1,19 +1,21 @@
--- What `run::join_answer` asks on the way: the edges are in the arrays, and the vertices are a pair. Assumes nothing.
-use native.Mathlib.Omega.{arith}
-use Rattle.run.proofs.Answers.{named_few, named_pair}
+-- `run::join_answer` meets its contract. The corners are of two faces of the sheet where they are by the arrays. Assumes nothing.
+use Rattle.std.proofs.Common.{arith}
+use Rattle.std.proofs.lemmas.Grind.{common_steps}
+use Rattle.answers.specs.Refusals.{first}
+use Rattle.edit.specs.Calls.{run_answer}
+use Rattle.run.proofs.Corners.{corner_is}
 use Rattle.run.proofs.join_answer.Goals as goal
 
-pub touches-requires : goal.touches-requires
-touches-requires c = omega (arith, named_few c.requires.0)
+pub returns-then-face : goal.returns-then-face
+unfolding run_answer first
+returns-then-face c =
+    let a = c.args in
+    let faced = c.requires.0.faced in
+    rw (corner_is a.s a.from.edge a.from.vertex a.found.now.faces faced, corner_is a.s a.to.edge a.to.vertex a.found.now.faces faced) (grind (arith, common_steps))
 
-pub touches-requires-2 : goal.touches-requires-2
-touches-requires-2 c = omega (arith, named_few c.requires.0)
-
-pub corner-requires : goal.corner-requires
-corner-requires c = omega (arith, named_few c.requires.0)
-
-pub corner-requires-2 : goal.corner-requires-2
-corner-requires-2 c = omega (arith, named_few c.requires.0)
-
-pub leads_back-requires : goal.leads_back-requires
-leads_back-requires c = (named_pair c.requires.0 c.if-a-b.false, c.requires.1)
+pub returns : goal.returns
+unfolding run_answer first
+returns c =
+    let a = c.args in
+    let faced = c.requires.0.faced in
+    rw (corner_is a.s a.from.edge a.from.vertex a.found.now.faces faced, corner_is a.s a.to.edge a.to.vertex a.found.now.faces faced) (grind (arith, common_steps))

@@ -1,9 +1,6 @@
 -- `run::leads_back` meets its contract. From vertex 0, or by the rows, or by the circles of the graph with edge 0 replaced. Assumes nothing.
-use Prim.Native.Nat.{◌<◌}
-use mathlib.Core.Path.{sym, ◌∙◌, ap}
+use Rattle.std.proofs.Common.{◌<◌, sym, ◌∙◌, ap, is_none, arith}
 use Rattle.std.proofs.Math.Bool.{not, not-not}
-use Rattle.std.specs.Option.{is_none}
-use native.Mathlib.Omega.{arith}
 use Rattle.digraph.proofs.Relaxation.{is_none_found}
 use Rattle.run.proofs.Closing.{from_root, not_higher, by_circle}
 use Rattle.run.proofs.leads_back.Goals as goal

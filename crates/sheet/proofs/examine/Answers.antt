@@ -1,8 +1,7 @@
 -- `sheet::examine` meets its contract: a clause that fails makes the record unsound, whatever the order. Assumes nothing.
-use mathlib.Core.Path.{◌≡◌, sym, ◌∙◌}
-use mathlib.Core.Bool.{true}
-use native.Mathlib.Omega.{arith}
+use Rattle.std.proofs.Common.{ap, ok_or, ◌≡◌, sym, ◌∙◌, true, arith}
 use Rattle.sheet.specs.Inner.{bounded}
+use Rattle.answers.specs.declared.Refusal.TheVariants.{NotSound}
 use Rattle.sheet.proofs.Clauses.{bounded_ends, not_sound, not_bounded, not_rooted, no_poles, no_levels, by_all}
 use Rattle.sheet.proofs.examine.Goals as goal
 
@@ -41,4 +40,4 @@ faced-requires c =
 pub returns : goal.returns
 returns c =
     let is_in : bounded c.args.s ≡ true = sym c.is_bounded.ensures ∙ c.if-not-is_bounded.false in
-    by_all _ _ c.in-Some.ensures is_in (sym c.is_rooted.ensures ∙ c.if-not-is_rooted.false) (sym c.has_poles.ensures ∙ c.if-not-has_poles.false) _ c.faced.ensures
+    by_all _ _ c.in-Some.ensures is_in (sym c.is_rooted.ensures ∙ c.if-not-is_rooted.false) (sym c.has_poles.ensures ∙ c.if-not-has_poles.false) _ (c.ok_or.ensures.value ∙ ap (λ f. ok_or f NotSound) c.faced.ensures)

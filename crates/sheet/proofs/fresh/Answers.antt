@@ -1,4 +1,4 @@
-use mathlib.Core.Path.{refl}
+use Rattle.std.proofs.Common.{refl}
 use Rattle.sheet.specs.Fresh.{fresh_sheet}
 use Rattle.sheet.proofs.fresh.Goals as goal
 

@@ -1,7 +1,7 @@
 -- `writedrawing::write_drawing` meets its contract: a sheet that draw refuses, then a buffer that is too short is refused. Assumes nothing.
-use Rattle.std.proofs.Common.{◌≡◌, sym, ◌∙◌, rules, Err}
-use borrow.Author.Tests.{leb-true, leb-false}
-use Rattle.writedrawing.proofs.Answered.{refused, is_so, limits, is_drawing, short_buffer, drawing_put}
+use Rattle.std.proofs.Common.{◌≡◌, rules, Err, arith}
+use Rattle.writedrawing.proofs.Answered.{refused, is_so, limits, is_drawing, drawing_put}
+use Rattle.writedrawing.proofs.Texts.{drawing_short, segments_are}
 use Rattle.writedrawing.proofs.write_drawing.Goals as goal
 
 pub returns-in_err-drawing : goal.returns-in_err-drawing
@@ -9,20 +9,25 @@ returns-in_err-drawing c =
     let e : c.from_residual.result ≡ Err c.in_err-drawing.field-0.0 = search rules in
     rw e (refused _ _ c.draw.ensures _ c.in_err-drawing.was _)
 
-pub fits-requires : goal.fits-requires
-fits-requires c = let l = limits _ _ c.draw.ensures _ c.in_ok-drawing.was in (l.vertices_most, l.edges_most)
+pub shared_ref_as_front-text : goal.shared_ref_as_front-text
+shared_ref_as_front-text c = (limits _ _ c.draw.ensures _ c.in_ok-drawing.was).vertices_most
 
-pub returns-then-not-fits : goal.returns-then-not-fits
-returns-then-not-fits c =
-    let p = c.draw.ensures in
-    let a = c.in_ok-drawing.was in
-    short_buffer _ (is_so _ _ p _ a) _ (is_drawing _ _ p _ a) _ (leb-false _ _ (sym c.fits.ensures ∙ c.if-not-fits.true))
+pub shared_ref_as_front-text-2 : goal.shared_ref_as_front-text-2
+shared_ref_as_front-text-2 c = (limits _ _ c.draw.ensures _ c.in_ok-drawing.was).edges_most
 
-pub put_drawing-requires-clause-few : goal.put_drawing-requires-clause-few
-put_drawing-requires-clause-few c = let l = limits _ _ c.draw.ensures _ c.in_ok-drawing.was in (l.vertices_most, l.edges_most)
+pub write_front-requires : goal.write_front-requires
+write_front-requires c =
+    let s = c.args.s in
+    let d = c.in_ok-drawing.drawing in
+    let l = limits _ _ c.draw.ensures _ c.in_ok-drawing.was in
+    rw (segments_are d s.vertices s.edges (omega (arith, l.vertices_most)) (omega (arith, l.edges_most))) (drawing_short d s.vertices s.edges l.vertices_most l.edges_most)
 
 pub returns : goal.returns
 returns c =
+    let s = c.args.s in
+    let d = c.in_ok-drawing.drawing in
     let p = c.draw.ensures in
     let a = c.in_ok-drawing.was in
-    drawing_put _ (is_so _ _ p _ a) _ (is_drawing _ _ p _ a) _ (leb-true _ _ (sym c.fits.ensures ∙ c.if-not-fits.false)) c.put_drawing.ensures.0 _ (search rules)
+    let l = limits _ _ p _ a in
+    let z = segments_are d s.vertices s.edges (omega (arith, l.vertices_most)) (omega (arith, l.edges_most)) in
+    drawing_put _ (is_so _ _ p _ a) d (is_drawing _ _ p _ a) _ (rw z at c.write_front.ensures.0) c.ok_or.ensures.value (rw z at c.write_front.ensures.1)

@@ -27,7 +27,7 @@ pub pass-requires : goal.pass-requires
 pass-requires c =
     let u = c.requires.1 in
     let T = c.loop-k.invariant u.listing u.settled in
-    let at : Listed c.args.self.now.edges c.args.self.now.after c.loop-k.k c.loop-k.k = at_head c.loop-k-test.true in
+    let at : Listed c.args.self.now.graph.edges c.args.self.now.after c.loop-k.k c.loop-k.k = at_head c.loop-k-test.true in
     let few = u.listing.graph.within in (
       omega (arith, end_in u.listing.graph T _ at _ c.from.ensures, few.few_nodes),
       omega (arith, low_level u.listing.graph T, few.few_edges),

@@ -3,8 +3,11 @@ use Rattle.load.specs.Load.{with_nexts, ring_lines}
 use Rattle.load.proofs.around.ring_lines.Given as goal
 
 abbrev pub invariant-loop-v : goal.invariant-loop-v
-invariant-loop-v l = record {
-  rest : ring_lines (l.sheet.vertices - l.v) l.text (with_nexts l.sheet l.nexts) l.v l.at ≡ ring_lines l.sheet.vertices l.text (with_nexts l.sheet l.initial.nexts) 0 l.start;
-  clear : (k : ℕ) → get_or l.seen k 0 ≤ l.v;
-  size : length l.seen ≡ 256;
-}
+invariant-loop-v l =
+    let text = l.initial.reader.text.now in
+    record {
+      same : l.reader.text.now ≡ text;
+      rest : ring_lines (l.sheet.vertices - l.v) text (with_nexts l.sheet l.nexts) l.v l.reader.at ≡ ring_lines l.sheet.vertices text (with_nexts l.sheet l.initial.nexts) 0 l.initial.reader.at;
+      clear : (k : ℕ) → get_or l.seen k 0 ≤ l.v;
+      size : length l.seen ≡ 256;
+    }

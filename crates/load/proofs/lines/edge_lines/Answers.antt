@@ -1,4 +1,7 @@
-use Rattle.std.proofs.Common.{◌≡◌, ℕ, ◌<◌, ◌≤◌, true, ◌≢◌, Some, sym, ◌∙◌, arith}
+use Rattle.std.proofs.Common.{◌≡◌, ℕ, ◌<◌, ◌≤◌, true, ◌≢◌, Some, sym, ◌∙◌, arith, get_or-set_other}
+use Rattle.text.specs.Reading.{line_at}
+use Rattle.text.specs.Keys.{wire_key}
+use Rattle.text.specs.Shapes.{pair_of}
 use Rattle.clauses.proofs.Touching.{joins_means}
 use Rattle.load.specs.Load.{with_edge}
 use Rattle.load.proofs.Turns.{Joins, edges_more, apart_more}
@@ -27,13 +30,16 @@ loop-k-preserved c =
     let loop = c.loop-k in
     let inv = loop.invariant in
     let sheet = loop.sheet in
-    let got : c.pair_line.result ≡ Some (c.in_ok-a.a, c.in_ok-a.b, c.in_ok-a.next) = grind arith in
+    let line : Some (c.in_ok-a.a, c.in_ok-a.b, c.pair_line.new.self.at) ≡ pair_of (line_at wire_key c.args.reader.now.text.now loop.reader.at) = grind arith in
     let joined = sym c.joins.ensures ∙ c.if-not-joins.false in
     let (tail, head, apart) = ends sheet.vertices _ _ (omega arith) joined in
     record {
-      rest = edges_more c.args.text.now sheet c.args.sheet.now.edges loop.k loop.at c.loop-k-test.true _ _ _ (sym got ∙ c.pair_line.ensures) joined ∙ inv.rest;
+      same = c.pair_line.ensures.text ∙ inv.same;
+      rest = edges_more c.args.reader.now.text.now sheet c.args.sheet.now.edges loop.k loop.reader.at c.loop-k-test.true _ _ _ line joined ∙ inv.rest;
       vertices = inv.vertices;
       edges = inv.edges;
+      nexts = inv.nexts;
+      kept = λ i h. let (t, d) = inv.kept i h in (get_or-set_other sheet.tails loop.k i _ 0 (λ e. omega arith) ∙ t, get_or-set_other sheet.heads loop.k i _ 0 (λ e. omega arith) ∙ d);
       degrees = omega arith;
       apart = apart_more loop.k _ _ sheet.tails sheet.heads (omega arith) (omega arith) apart inv.apart;
       counted = rw (c.count_end-in-loop-k.ensures, c.count_end.ensures) (counted_more loop.k _ _ sheet.tails sheet.heads loop.degrees (omega arith) (omega arith) tail head apart inv.degrees inv.counted);

@@ -1,7 +1,7 @@
 -- `Darts::pass` meets its contract. Where the walk comes back after as many steps as the vertex has darts, the edges out of the vertex were passed on it, each once. Assumes nothing.
 use Rattle.std.proofs.Common.{◌≡◌, ◌<◌, ◌-◌, suc, refl, sym, ◌∙◌, arith, ⊎_elim}
 use Rattle.rings.proofs.Rings.{going_none, going_in, going_outside, going_elsewhere, going_early, going_long, going_back, going_on}
-use Rattle.rings.proofs.Walking.{walk_begin, walk_more, head_in, head_small, dart_small, level_small, none_passed, start_at, size_is, end_in, ring_passed, differ, agree}
+use Rattle.rings.proofs.Walking.{walk_begin, walk_more, head_in, head_small, dart_small, level_small, none_passed, start_at, size_is, tail_small, ring_passed, differ, agree}
 use Rattle.digraph.proofs.Passing.{end_moves}
 use Rattle.rings.proofs.Darts.pass.Goals as goal
 use Rattle.rings.proofs.Darts.pass.Goals.{then-self-d-via-then-self-d, then-self-d-via-else-self-d+then-from-v}
@@ -35,7 +35,7 @@ pass_dart-requires c =
       dart_small U h in_d,
       omega (arith, head_in U.placed _ in_d),
       level_small U h _ ev,
-      end_in U h _ ev _ c.from-size.ensures c.if-size-eq0.false _ c.from-start.ensures c.loop-step-test.true c.loop-step.invariant.end_in,
+      tail_small U h _ ev _ c.from-size.ensures c.if-size-eq0.false _ c.from-start.ensures c.loop-step-test.true (omega (arith, c.loop-step.invariant.end_in)),
     )
 
 pub returns-then-self-d-clause-none : goal.returns-then-self-d-clause-none

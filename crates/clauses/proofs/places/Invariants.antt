@@ -1,6 +1,0 @@
-use Rattle.std.proofs.Common.{◌≡◌, ◌*◌}
-use Rattle.clauses.specs.Inner.{dart_table, vertex_of}
-use Rattle.clauses.proofs.places.Given as goal
-
-abbrev pub invariant-loop-k : goal.invariant-loop-k
-invariant-loop-k l = l.at ≡ dart_table (vertex_of l.tails l.heads) (2 * l.k)

@@ -1,6 +1,0 @@
-use Rattle.counting.specs.Below.{join_below}
-use Rattle.writesheet.specs.Inner.{ring_text}
-use Rattle.writesheet.proofs.put_rings.Given as goal
-
-abbrev pub invariant-loop-first : goal.invariant-loop-first
-invariant-loop-first g l = g.S.Sink.puts l.initial.to (join_below (ring_text l.s) l.first-index) l.to
