@@ -43,7 +43,8 @@ typedef struct {
 
 /* Load: reads a sheet from the front of the text into the sheet's parts; `taken` gets the number of bytes read. A line, an
  * edit line too, may end in byte 10 alone or in 13 followed by 10.
- * Refused (1 to 8) the parts keep what they held and `taken` gets 0. */
+ * A text of no bytes, of length 0, gives the fresh sheet, whatever the parts held: the call answers 0, and `taken` gets 0.
+ * Refused (1 to 8) the parts keep what they held and `taken` gets 0; so only the answer tells whether it was refused. */
 uint16_t walnut_load(const uint8_t *text, size_t length, size_t *bars, size_t *wires, uint16_t tails[WALNUT_WIRES],
                      uint16_t heads[WALNUT_WIRES], uint16_t nexts[WALNUT_ENDS], size_t *taken);
 
@@ -86,10 +87,10 @@ enum { WALNUT_LOAD = 4 };
 
 /* A list of calls, made one after the other from the fresh sheet; answers the drawing of the sheet that they leave, which
  * always has one. Five numbers a call: its kind, then a, p, b and q of an edit; a load loads the bytes of the text from
- * number a up to, not including, number p, as far as the text has them, and numbers b and q are not looked at; any other
- * kind is refused 10. What is left after the last five numbers is no call. For each call `answers` gets two entries, what
- * it answers and the bytes that it took (0 for an edit), from the front on as far as two fit; the rest keeps what it held.
- * Lengths are of the arrays, not counts of calls. */
+ * number a up to, not including, number p, as far as the text has them (no bytes give the fresh sheet), and numbers b and
+ * q are not looked at; any other kind is refused 10. What is left after the last five numbers is no call. For each call
+ * `answers` gets two entries, what it answers and the bytes that it took (0 for an edit and for a load of no bytes), from
+ * the front on as far as two fit; the rest keeps what it held. Lengths are of the arrays, not counts of calls. */
 walnut_drawing walnut_replay(const size_t *calls, size_t calls_length, const uint8_t *text, size_t text_length,
                              size_t *answers, size_t answers_length);
 

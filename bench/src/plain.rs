@@ -256,6 +256,9 @@ impl Reader<'_> {
 }
 
 fn read_sheet(text: &[u8]) -> Result<(Sheet, usize), u16> {
+    if text.is_empty() {
+        return Ok((Sheet::fresh(), 0));
+    }
     let mut reader = Reader { text, at: 0 };
     let [n] = reader.line(b"bars=").ok_or(1u16)?;
     if !(2..=MAX_VERTICES).contains(&n) {

@@ -7,8 +7,12 @@ use crate::sound::survey;
 use crate::text::{fields, number, numbers, split_line};
 
 /// "Load reads a sheet from the front of the text and tells how many bytes it took." Refused:
-/// "The present sheet comes back, 0 bytes taken."
+/// "The present sheet comes back, 0 bytes taken." Since C-13: "A load of no bytes now yields the fresh
+/// sheet with 0 bytes taken. Text of one byte or more is treated as before".
 pub fn load(text: &[u8], present: &Sheet) -> (Answer, Sheet, usize) {
+    if text.is_empty() {
+        return (Ok(()), Sheet::fresh(), 0);
+    }
     match read_sheet(text) {
         Ok((sheet, taken)) => (Ok(()), sheet, taken),
         Err(refusal) => (Err(refusal), *present, 0),

@@ -29,11 +29,13 @@ fn random_call(random: &mut Random, sheet: &Sheet) -> (Answer, Sheet) {
             let other = grown(random, vertices, edges);
             let mut text = sheet_text(random, &other);
             text = mixed_ends(random, &text);
-            if random.one_in(2) {
-                text = damaged(random, &text);
+            match random.below(8) {
+                0 => text.clear(),
+                1..=4 => text = damaged(random, &text),
+                _ => {}
             }
             let (answer, new, taken) = load(&text, sheet);
-            assert_eq!(answer.is_ok(), taken > 0);
+            assert_eq!(taken > 0, answer.is_ok() && !text.is_empty());
             (answer, new)
         }
         1..=3 => {

@@ -110,7 +110,7 @@ fn a_sheet_with_mixed_ends_is_the_same_sheet() {
 fn every_example_in_both_line_ends() {
     let random = &mut Random::new(83);
     let examples = examples();
-    assert_eq!(examples.len(), 15);
+    assert_eq!(examples.len(), 17);
     for (path, input, expected) in examples {
         let input = String::from_utf8(input).expect("text").replace("\r\n", "\n");
         assert_eq!(plate(input.replace('\n', "\r\n").as_bytes()), expected, "{}", path.display());
@@ -140,7 +140,7 @@ fn a_13_at_every_place_of_a_plate() {
             assert!(output.starts_with(b"refused=1\nrows="), "{at}");
         }
     }
-    for front in truncations(&ended(FRESH, "\r\n")).take(61 - 1) {
+    for front in truncations(&ended(FRESH, "\r\n")).take(61 - 1).skip(1) {
         assert_eq!(load_answer(front), Err(1));
     }
 }

@@ -27,7 +27,7 @@ fn a1_line_by_line() {
 #[test]
 fn a2_a_missing_line() {
     assert_eq!(load_answer(b"bars=128\n"), Err(1));
-    assert_eq!(load_answer(b""), Err(1));
+    assert_eq!(after_counts(""), Err(1));
     assert_eq!(after_counts("wire=0,1\n"), Err(1));
     assert_eq!(after_wires(""), Err(1));
     assert_eq!(after_wires("around=0,1\n"), Err(1));
@@ -216,6 +216,6 @@ fn a13_the_present_sheet() {
     present.tails[255] = 65_535;
     present.nexts[511] = 1;
     assert_eq!(load(b"bars=1\n", &present), (Err(2), present, 0));
-    assert_eq!(load(b"", &present), (Err(1), present, 0));
+    assert_eq!(load(b"\n", &present), (Err(1), present, 0));
     assert_eq!(load(&lines(FRESH), &present), (Ok(()), Sheet::fresh(), 55));
 }

@@ -54,7 +54,7 @@ fn truncated_sheets_are_refused_1() {
     for _ in 0..60 {
         let sheet = random_sheet(random);
         let text = sheet_text(random, &sheet);
-        for front in truncations(&text).take(text.len()) {
+        for front in truncations(&text).take(text.len()).skip(1) {
             assert_eq!(load(front, &Sheet::fresh()).0, Err(1));
         }
     }

@@ -77,6 +77,12 @@ static void check_load(void) {
     check(load(&s, "bars=2\r\nwires=2\nwire=0,1\r\nwire=0,1\naround=0,1\naround=0,1\r\nin=1\r\n", &taken) == 0 && taken == 58 && same_sheet(&s, &fresh),
           "lines may end in 13 10, and the 13s count");
     check(load(&s, "bars=2\r\r\nwires=2\n", &taken) == 1 && taken == 0 && same_sheet(&s, &fresh), "13 13 10 is refused 1");
+    check(load(&s, p4, &taken) == 0 && !same_sheet(&s, &fresh), "P4 loads again");
+    const walnut_sheet loaded = s;
+    check(load(&s, "\n", &taken) == 1 && taken == 0 && same_sheet(&s, &loaded), "one byte 10 is refused 1");
+    check(load(&s, "in=1\n", &taken) == 1 && taken == 0 && same_sheet(&s, &loaded), "edit lines alone are refused 1");
+    taken = 99;
+    check(load(&s, "", &taken) == 0 && taken == 0 && same_sheet(&s, &fresh), "no bytes give the fresh sheet, 0 bytes taken");
 }
 
 static void check_writers(void) {
@@ -150,6 +156,14 @@ static void check_replay(void) {
         check(same == 14, "answers are put two by two, and the rest is untouched");
     }
 
+    /* A blank load in a list: a part that ends where it begins, behind the edits of P4. */
+    const size_t blank_calls[] = {WALNUT_LOAD, 0, strlen(p4), 0, 0, WALNUT_IN, 1, 0, 0, 0, WALNUT_LOAD, 7, 7, 0, 0,
+                                  WALNUT_IN, 1, 0, 0, 0, WALNUT_RUN, 0, 1, 2, 2};
+    const size_t blank_answers[10] = {0, strlen(p4), 0, 0, 0, 0, 0, 0, 0, 0};
+    d = walnut_replay(blank_calls, sizeof blank_calls / sizeof *blank_calls, bytes(text), length, answers, 10);
+    check(same_drawing(&d, &p5_drawing), "after a blank load the edits of P5 give the drawing of P5");
+    check(memcmp(answers, blank_answers, sizeof blank_answers) == 0, "a blank load is accepted with 0 bytes taken");
+
     const size_t p4_in_calls[] = {WALNUT_LOAD, 0, strlen(p4), 0, 0, WALNUT_IN, 1, 0, 0, 0};
     d = walnut_replay(p4_in_calls, 10, bytes(text), length, answers, 0);
     check(d.bars[4].row == 1 && d.bars[4].first == 0 && d.bars[4].last == 1, "bar 4 of P4 after in=1 goes up to its right neighbour");
@@ -165,6 +179,10 @@ static void check_plate(void) {
     memset(buffer, '#', sizeof buffer);
     answer = walnut_plate(bytes("bars=1\n"), 7, buffer, sizeof buffer, &count);
     check(holds_text(answer, count, "refused=2\n"), "plate prints the refusal of bars=1");
+    memset(buffer, '#', sizeof buffer);
+    answer = walnut_plate(bytes(""), 0, buffer, sizeof buffer, &count);
+    check(holds_text(answer, count, "rows=2\ncolumns=2\nbar=0,0,1\nbar=1,0,1\nwire=1,0,1\nwire=0,0,1\n"),
+          "plate prints the drawing of the fresh sheet for an input of no bytes");
 }
 
 static void check_graphs(void) {

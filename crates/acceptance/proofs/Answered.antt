@@ -22,7 +22,7 @@ use Rattle.soundness.proofs.Rings.{rings_rotation, rings_law}
 use Rattle.soundness.proofs.Faces.{planar_law}
 use Rattle.soundness.proofs.Law.{circle_law}
 use Rattle.load.specs.Rings.{is_rotation, link_ring}
-use Rattle.load.specs.Load.{Parsed, empty_sheet, with_edge, with_nexts, judged, ring_lines, edge_lines, with_count, load, returned}
+use Rattle.load.specs.Load.{Parsed, empty_sheet, with_edge, with_nexts, judged, ring_lines, edge_lines, with_count, load_lines, load, returned}
 use Rattle.roundtrip.proofs.Around.{around_law}
 use Rattle.roundtrip.proofs.Linking.{link_anew}
 use Rattle.roundtrip.proofs.Loaded.{pick_each, Edged, edge_read, empty_read, Ringed, ring_read, none_ringed, whole_sized, whole_lined}
@@ -31,6 +31,7 @@ use Rattle.acceptance.specs.Loading.AroundLines.{no_around, bad_around, around, 
 use Rattle.acceptance.specs.Loading.WireLines.{no_wire, bad_wire, wire, last_wire}
 use Rattle.acceptance.specs.Loading.WiresLine.{no_wires, bad_wires, wires}
 use Rattle.acceptance.specs.Loading.BarsLine.{no_bars, bad_bars, bars}
+use Rattle.acceptance.specs.Loading.LoadAnswered.{no_bytes, some_bytes}
 use Rattle.acceptance.specs.Laws.{LoadAnsweredLaw}
 use Rattle.layout.proofs.Shapes.{line_reads, one_shaped, two_shaped, some_shaped}
 use Rattle.acceptance.proofs.Said.{Said, said_more, none_said, wire_bad, wire_good, around_its, its_around, laid_after}
@@ -151,8 +152,8 @@ module _ (text : List ℕ) (present : Sheet) where
       Answered : Parsed → Type 0
       Answered p = WiresLine text present (result present p) n at
 
-  bars_answered : BarsLine text present (result present (load text)) 0
-  unfolding load with_count result returned answer_number refusal_number
+  pub bars_answered : BarsLine text present (result present (load_lines text)) 0
+  unfolding load_lines with_count result returned answer_number refusal_number
   bars_answered = one_shaped (line_reads bars_key text 0) Answered _ _ (λ f. no_bars f refl) (λ n after L.
       pick_each Answered (leb 2 n && leb n 128) _ _
       (λ t. bars L (inside 128 n (within 128 n t)) (wires_answered n after (within 128 n t)))
@@ -162,5 +163,6 @@ module _ (text : List ℕ) (present : Sheet) where
       Answered p = BarsLine text present (result present p) 0
 
 pub load_answered : LoadAnsweredLaw
-unfolding result
-load_answered text present = bars_answered text present
+unfolding load returned answer_number result
+load_answered [] present = no_bytes (omega arith) refl
+load_answered (b ∷ text) present = some_bytes (omega arith) (bars_answered (b ∷ text) present)

@@ -1,5 +1,5 @@
--- Load accepts exactly the texts that begin with a sound sheet, each ring turned anyhow, with line ends of both kinds. Assumes nothing.
-use Rattle.std.proofs.Common.{Ok, Err, is_ok, true, ◌≡◌, refl, sym, ◌∙◌, ap, subst, List, [], ◌∷◌, ◌++◌, ℕ, suc, ◌<◌, arith, get_or, length, drop}
+-- Load accepts no bytes, and exactly the texts that begin with a sound sheet, each ring turned anyhow, with line ends of both kinds. Assumes nothing.
+use Rattle.std.proofs.Common.{Ok, Err, is_ok, true, ◌≡◌, ◌⊎◌, inl, inr, refl, sym, ◌∙◌, ap, subst, List, [], ◌∷◌, ◌++◌, ℕ, suc, ◌<◌, arith, get_or, length, drop}
 use Rattle.std.proofs.Math.Logic.{by_cases}
 use Rattle.std.proofs.Math.Decide.{dec_lt}
 use Rattle.std.proofs.lemmas.Bool.{false≢true}
@@ -14,7 +14,8 @@ use Rattle.clauses.specs.declared.Sheet.{Sheet}
 use Rattle.sheet.specs.Darts.{dart_at, tail, head}
 use Rattle.sheet.specs.Sound.{Sound}
 use Rattle.writesheet.specs.Rings.{rotation}
-use Rattle.load.specs.Load.{Parsed, load, returned}
+use Rattle.load.specs.Load.{Parsed, load_lines, load, returned}
+use Rattle.load.proofs.Turns.{lines_accepted}
 use Rattle.load.specs.declared.Loaded.{Loaded}
 use Rattle.roundtrip.proofs.Around.{Around}
 use Rattle.roundtrip.proofs.Laid.{Laid, cyclic, cyclic_entry}
@@ -26,7 +27,7 @@ use Rattle.acceptance.specs.Loading.After.{on_line, around_again}
 use Rattle.acceptance.specs.Laws.{turned, turned_text, Begins, LoadAccepts, LoadGives}
 use Rattle.acceptance.proofs.Said.{Said, its_around, end_there}
 use Rattle.acceptance.proofs.Turned.{turned_rotates, laid_turned}
-use Rattle.acceptance.proofs.Answered.{result, load_answered}
+use Rattle.acceptance.proofs.Answered.{result, bars_answered}
 use Rattle.acceptance.proofs.Accepted.{wire_line, ring_line, Front, front_splits, all_lines}
 
 pub load_gives : LoadGives
@@ -106,23 +107,30 @@ module _ (n : ℕ) (tails heads : List ℕ) (rings : List (List ℕ)) (s : Sheet
     whole = front_splits text F.bytes F.holds;
   }
 
-load_begins : (text : List ℕ) (l : Loaded) → load text ≡ Ok l → Begins text
+lines_begin : (text : List ℕ) (l : Loaded) → load_lines text ≡ Ok l → Begins text
 unfolding result returned answer_number
-load_begins text l e =
-    let all = all_lines text l.sheet (result l.sheet (load text)) (ap answer_number e) (load_answered text l.sheet) in
+lines_begin text l e =
+    let all = all_lines text l.sheet (result l.sheet (load_lines text)) (ap answer_number e) (bars_answered text l.sheet) in
     let w = all.wires_each in
     let a = w.around_each in
-    let (z, S) = loaded_sound text l e in
-    let is : Sound (returned l.sheet (load text)).sheet = rw e S in
-    described_begins all.n w.tails w.heads a.rings (returned l.sheet (load text)).sheet is a.described w.same
+    let (z, S) = loaded_sound text l (lines_accepted text e) in
+    let is : Sound (returned l.sheet (load_lines text)).sheet = rw e S in
+    described_begins all.n w.tails w.heads a.rings (returned l.sheet (load_lines text)).sheet is a.described w.same
     (λ v h. a.each.its v (omega (arith, a.full))) (λ v h. a.each.some v (omega (arith, a.full))) text all.m a.taken w.count a.lines
 
-pub load_accepts : LoadAccepts
-load_accepts text = (
-  go (load text) refl,
-  λ B. ap is_ok (ap load B.whole ∙ load_gives B.sheet B.sized B.sound B.turn B.lines B.mixed B.rest),
-)
+accepted_begins : (text : List ℕ) → is_ok (load text) ≡ true → (text ≡ []) ⊎ Begins text
+unfolding load
+accepted_begins [] t = inl refl
+accepted_begins (b ∷ text) t = inr (go (load_lines (b ∷ text)) refl t)
   where
-    go : (p : Parsed) → load text ≡ p → is_ok p ≡ true → Begins text
-    go (Ok l) e t = load_begins text l e
+    go : (p : Parsed) → load_lines (b ∷ text) ≡ p → is_ok p ≡ true → Begins (b ∷ text)
+    go (Ok l) e t = lines_begin (b ∷ text) l e
     go (Err r) e t = absurd (false≢true t)
+
+begins_accepted : (text : List ℕ) → (text ≡ []) ⊎ Begins text → is_ok (load text) ≡ true
+unfolding load
+begins_accepted text (inl e) = rw e refl
+begins_accepted text (inr B) = ap is_ok (ap load B.whole ∙ load_gives B.sheet B.sized B.sound B.turn B.lines B.mixed B.rest)
+
+pub load_accepts : LoadAccepts
+load_accepts text = (accepted_begins text, begins_accepted text)

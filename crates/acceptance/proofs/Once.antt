@@ -12,15 +12,16 @@ use Rattle.answers.proofs.Refusals.{refusal_nonzero}
 use Rattle.clauses.specs.declared.Sheet.{Sheet}
 use Rattle.sheet.specs.Check.{judge}
 use Rattle.load.specs.Rings.{is_rotation, link_ring}
-use Rattle.load.specs.Load.{Parsed, empty_sheet, with_edge, with_nexts, judged, ring_lines, edge_lines, with_count, load, returned}
+use Rattle.load.specs.Load.{Parsed, empty_sheet, with_edge, with_nexts, judged, ring_lines, edge_lines, with_count, load_lines, load, returned}
 use Rattle.roundtrip.proofs.Around.{around_law}
 use Rattle.roundtrip.proofs.Linking.{link_anew}
 use Rattle.roundtrip.proofs.Loaded.{pick_each, Edged, edge_read, empty_read, Ringed, ring_read, none_ringed, whole_lined}
-use Rattle.acceptance.specs.Loading.{Result, refusal, acceptance, Describes, after_last, AroundLines, WireLines, WiresLine, BarsLine}
+use Rattle.acceptance.specs.Loading.{Result, refusal, acceptance, Describes, after_last, AroundLines, WireLines, WiresLine, BarsLine, LoadAnswered}
 use Rattle.acceptance.specs.Loading.AroundLines.{no_around, bad_around, around, refused_last, accepted_last}
 use Rattle.acceptance.specs.Loading.WireLines.{no_wire, bad_wire, wire, last_wire}
 use Rattle.acceptance.specs.Loading.WiresLine.{no_wires, bad_wires, wires}
 use Rattle.acceptance.specs.Loading.BarsLine.{no_bars, bad_bars, bars}
+use Rattle.acceptance.specs.Loading.LoadAnswered.{no_bytes, some_bytes}
 use Rattle.acceptance.specs.Laws.{AnsweredOnce}
 use Rattle.layout.proofs.Shapes.{line_reads, one_none, one_read, two_none, two_read, some_none, some_read}
 use Rattle.acceptance.proofs.Said.{Said, none_said, said_more, wire_bad, wire_good, around_its, its_around}
@@ -109,14 +110,21 @@ module _ (text : List ℕ) (present : Sheet) (r : Result) where
       (λ t. let (c, d) = within 256 m t in edges_once m (empty_sheet n m) 0 after [] [] (omega arith) (empty_read n m a b c d) (none_said (empty_sheet n m)) A)
       (λ t. absurd (o (not_within 256 m t))))
 
-  bars_once : BarsLine text present r 0 → Is (load text)
-  unfolding load with_count result returned answer_number refusal_number
+  bars_once : BarsLine text present r 0 → Is (load_lines text)
+  unfolding load_lines with_count result returned answer_number refusal_number
   bars_once (no_bars f e) = one_none (line_reads bars_key text 0) Is _ _ f e
   bars_once (bad_bars {n} L o e) = one_read (line_reads bars_key text 0) Is _ _ L (pick_each Is (leb 2 n && leb n 128) _ _ (λ t. absurd (inside 128 n (within 128 n t) o)) (λ t. e))
   bars_once (bars {n} {after} L o W) = one_read (line_reads bars_key text 0) Is _ _ L (pick_each Is (leb 2 n && leb n 128) _ _ (λ t. wires_once n after (within 128 n t) W) (λ t. absurd (o (not_within 128 n t))))
 
+load_once : (text : List ℕ) (present : Sheet) (r : Result) → LoadAnswered text present r.number r.sheet r.taken → r ≡ result present (load text)
+unfolding load result returned answer_number
+load_once [] present r (no_bytes h e) = e
+load_once [] present r (some_bytes h B) = absurd (omega arith)
+load_once (b ∷ text) present r (no_bytes h e) = absurd (omega arith)
+load_once (b ∷ text) present r (some_bytes h B) = bars_once (b ∷ text) present r B
+
 pub answered_once : AnsweredOnce
 unfolding result
-answered_once text present number sheet taken B =
-    let e = bars_once text present (record { number = number; sheet = sheet; taken = taken }) B in
+answered_once text present number sheet taken A =
+    let e = load_once text present (record { number = number; sheet = sheet; taken = taken }) A in
     (ap (λ q. q.number) e, ap (λ q. q.sheet) e, ap (λ q. q.taken) e)

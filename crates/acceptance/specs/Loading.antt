@@ -1,4 +1,4 @@
--- Load as document 01 lays it down: 'Line by line; on a line, shape first: 1 … 2 … 3 … 4 … After the last line: 5, 6, 7, 8.'
+-- Load as document 01 lays it down: 'Line by line; on a line, shape first: 1 … 2 … 3 … 4 … After the last line: 5, 6, 7, 8.'; and document 02 of no bytes.
 use Rattle.std.specs.Prelude.{ℕ, suc, ◌≤◌, ◌<◌, ◌≡◌, ◌≢◌, ◌⊎◌, List, [], ◌∷◌, ◌++◌, get_or, length}
 use Rattle.counting.specs.Paths.{Circle}
 use Rattle.text.specs.Keys.{bars_key, wires_key, wire_key, around_key}
@@ -7,6 +7,7 @@ use Rattle.answers.specs.Clauses.{Clause, ◌when◌, First}
 use Rattle.clauses.specs.Darts.{End, HasEnd}
 use Rattle.clauses.specs.declared.Sheet.{Sheet}
 use Rattle.sheet.specs.Darts.{Sized, tail, head, next}
+use Rattle.sheet.specs.Fresh.{fresh_sheet}
 use Rattle.sheet.specs.Sound.{Unused, Leads, Poles, Euler}
 
 -- ---- what load answers
@@ -115,6 +116,8 @@ pub data BarsLine (text : List ℕ) (present : Sheet) (r : Result) (at : ℕ) : 
   bad_bars : {n after : ℕ} → LineAt bars_key text at (n ∷ []) after → Outside 128 n → r ≡ refusal present 2 → BarsLine text present r at
   bars : {n after : ℕ} → LineAt bars_key text at (n ∷ []) after → ¬ Outside 128 n → WiresLine text present r n after → BarsLine text present r at
 
--- load answers `number`, `sheet` and `taken` to the text, read from its front, and the present sheet
-abbrev pub LoadAnswered : List ℕ → Sheet → ℕ → Sheet → ℕ → Type 0
-LoadAnswered text present number sheet taken = BarsLine text present (record { number = number; sheet = sheet; taken = taken }) 0
+-- Load answers `number`, `sheet` and `taken` to the text and the present sheet. A load of no bytes yields the fresh sheet with 0 bytes taken; text of one byte or more
+-- is read line by line from its front.
+pub data LoadAnswered (text : List ℕ) (present : Sheet) (number : ℕ) (sheet : Sheet) (taken : ℕ) : Type 0 where
+  no_bytes : length text ≡ 0 → record { number = number; sheet = sheet; taken = taken } ≡ acceptance fresh_sheet 0 → LoadAnswered text present number sheet taken
+  some_bytes : 1 ≤ length text → BarsLine text present (record { number = number; sheet = sheet; taken = taken }) 0 → LoadAnswered text present number sheet taken

@@ -10,8 +10,8 @@ use Rattle.answers.specs.declared.Refusal.{Refusal}
 use Rattle.answers.specs.Answers.{refusal_number}
 use Rattle.clauses.specs.declared.Sheet.{Sheet}
 use Rattle.load.specs.Rings.{is_rotation, link_ring}
-use Rattle.load.specs.Load.{Parsed, empty_sheet, with_edge, with_nexts, ring_lines, edge_lines, with_count, load}
-use Rattle.examples.specs.Described.{rings_from, edges_from, described, Read, DescribedLaw}
+use Rattle.load.specs.Load.{Parsed, empty_sheet, with_edge, with_nexts, ring_lines, edge_lines, with_count, load_lines, load}
+use Rattle.examples.specs.Described.{rings_from, edges_from, lines_described, described, Read, DescribedLaw}
 use Rattle.examples.specs.Described.Read.{last_line, refused_line}
 
 -- the refusals of a line
@@ -80,9 +80,14 @@ edges_read zero text s k at = rings_read s.vertices text s 0 at
 edges_read (suc r) text s k at = two s (line_at wire_key text at) _ _ (λ a b next.
     read_if (ltb a s.vertices && ltb b s.vertices && not (eqb a b)) edge (edges_read r text (with_edge s k a b) (k + 1) next))
 
-pub described_law : DescribedLaw
-unfolding described load
-described_law text =
+lines_read : (text : List ℕ) → Read (lines_described text) (load_lines text)
+unfolding lines_described load_lines
+lines_read text =
     one (empty_sheet 0 0) (line_at bars_key text 0) 128 _ _ (λ n next.
     one (empty_sheet n 0) (line_at wires_key text next) 256 _ _ (λ m after.
     edges_read m text (empty_sheet n m) 0 after))
+
+pub described_law : DescribedLaw
+unfolding described load
+described_law [] h = absurd (omega arith)
+described_law (b ∷ text) h = lines_read (b ∷ text)

@@ -1,11 +1,12 @@
--- The sheet that the lines of a text describe, whether it is sound or not: the one that load judges after the last line.
-use Rattle.std.specs.Prelude.{ℕ, zero, suc, ◌+◌, ◌≤◌, List, Err}
+-- The sheet that a text describes, whether it is sound or not: the one that load judges after the last line, or the fresh one.
+use Rattle.std.specs.Prelude.{ℕ, zero, suc, ◌+◌, ◌≤◌, List, [], ◌∷◌, length, Err}
 use Rattle.text.specs.Keys.{bars_key, wires_key, wire_key, around_key}
 use Rattle.text.specs.Reading.{line_at}
 use Rattle.text.specs.Shapes.{with_one, with_two, with_some}
 use Rattle.answers.specs.declared.Refusal.{Refusal}
 use Rattle.answers.specs.Answers.{refusal_number}
 use Rattle.clauses.specs.declared.Sheet.{Sheet}
+use Rattle.sheet.specs.Fresh.{fresh_sheet}
 use Rattle.load.specs.Rings.{link_ring}
 use Rattle.load.specs.Load.{Parsed, empty_sheet, with_edge, with_nexts, judged, load}
 
@@ -21,11 +22,16 @@ edges_from zero text s k at = rings_from s.vertices text s 0 at
 edges_from (suc r) text s k at = with_two (line_at wire_key text at) s (λ a b next. edges_from r text (with_edge s k a b) (k + 1) next)
 
 -- the lines `bars=n` and `wires=m`, and what follows them
-unfoldable pub described : List ℕ → Sheet
-described text =
+unfoldable pub lines_described : List ℕ → Sheet
+lines_described text =
     with_one (line_at bars_key text 0) (empty_sheet 0 0) (λ n next.
     with_one (line_at wires_key text next) (empty_sheet n 0) (λ m after.
     edges_from m text (empty_sheet n m) 0 after))
+
+-- no bytes stand for the fresh sheet
+unfoldable pub described : List ℕ → Sheet
+described [] = fresh_sheet
+described (b ∷ text) = lines_described (b ∷ text)
 
 -- what load makes of lines that describe the sheet s: it judges s after the last line, or refuses a line, 1 to 4
 pub data Read (s : Sheet) : Parsed → Type 0 where
@@ -33,4 +39,4 @@ pub data Read (s : Sheet) : Parsed → Type 0 where
   refused_line : (r : Refusal) → 1 ≤ refusal_number r → refusal_number r ≤ 4 → Read s (Err r)
 
 abbrev pub DescribedLaw : Type 0
-DescribedLaw = (text : List ℕ) → Read (described text) (load text)
+DescribedLaw = (text : List ℕ) → 1 ≤ length text → Read (described text) (load text)

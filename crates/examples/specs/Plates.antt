@@ -13,7 +13,7 @@ use Rattle.examples.specs.Described.{described}
 unfoldable pub lines : String → List ℕ
 lines text = map (λ b. cond (eqb b 124) 10 (cond (eqb b 94) 13 b)) (bytes text)
 
--- what is said of the sheet that the lines of an input describe: no more, that it is the fresh one, how many faces it has
+-- what is said of the sheet that an input describes: no more, that it is the fresh one, how many faces it has
 pub data Remark : Type 0 where
   none : Remark
   fresh : Remark
@@ -64,6 +64,12 @@ plates =
     ∷ plate "bars=2|^wires=1|" "refused=1|"
     -- Bars long enough for the clip: P4 with `in=1`: bar 4 goes from column 0 to 1
     ∷ plate "bars=4|wires=6|wire=0,1|wire=0,2|wire=2,1|wire=0,3|wire=3,1|wire=2,3|around=1,3,0|around=0,4,2|around=2,5,1|around=4,3,5|in=1|" "rows=5|columns=4|bar=0,0,3|bar=4,0,3|bar=2,0,1|bar=3,1,2|bar=1,0,1|wire=3,0,4|wire=0,0,1|wire=0,2,4|wire=2,0,3|wire=1,3,4|wire=1,2,3|wire=0,1,2|"
+    -- A blank file: the fresh sheet. A byte 10, 13 10, a space, edit lines: some bytes, and 1
+    ∷ plate_of fresh "" "rows=2|columns=2|bar=0,0,1|bar=1,0,1|wire=1,0,1|wire=0,0,1|"
+    ∷ plate "|" "refused=1|"
+    ∷ plate "^|" "refused=1|"
+    ∷ plate " " "refused=1|"
+    ∷ plate "in=1|run=0,1,2,2|" "refused=1|"
     ∷ []
 
 -- two texts are the same

@@ -17,7 +17,7 @@ Remarked none s = Unit
 Remarked fresh s = s ≡ fresh_sheet
 Remarked (faces f) s = (face : ℕ → ℕ) × Faces s face f
 
--- `plate` prints the output for the input, and the sheet that the input's lines describe is as remarked
+-- `plate` prints the output for the input, and the sheet that the input describes is as remarked
 pub record Agrees (p : Plate) : Type 0 where
   pub printed : plate_output p.input ≡ p.output
   pub remarked : Remarked p.sheet (described p.input)

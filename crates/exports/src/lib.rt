@@ -114,7 +114,7 @@ pub extern "C" fn walnut_is_sound(
     sheet::is_sound(sheet_of(vertices, edges, tails, heads, nexts))
 }
 
-// Load. The present sheet is lent in parts, and the sheet that load returns takes its place.
+// Load. The present sheet is lent in parts, and the sheet that load returns takes its place: for a text of no bytes the fresh one, with 0 bytes taken.
 #[unsafe(no_mangle)]
 pub extern "C" fn walnut_load(
     text: &[u8],
@@ -196,7 +196,7 @@ pub extern "C" fn walnut_edit(
 }
 
 // A list of calls from the fresh sheet, five numbers a call: its kind (0 in, 1 run, 2 out, 3 off, 4 load; any other is refused 10) and four numbers;
-// a load takes the bytes of the text from the first of them up to the second. Each call's number and bytes taken are put into the
+// a load takes the bytes of the text from the first of them up to the second, where there are none the fresh sheet. Each call's number and bytes taken are put into the
 // lent numbers, two a call, and the drawing of the sheet after the list is returned.
 #[unsafe(no_mangle)]
 pub extern "C" fn walnut_replay(calls: &[usize], text: &[u8], answers: &mut [usize]) -> Drawing

@@ -1,5 +1,5 @@
 -- The loops over the lines, turn by turn: what is left to read gives what the whole gives. Assumes nothing.
-use Rattle.std.proofs.Common.{◌≡◌, ℕ, suc, ◌+◌, ◌-◌, ◌<◌, ◌≤◌, Bool, true, false, not, ◌&&◌, eqb, ltb, leb, ◌≢◌, List, [], ◌∷◌, length, get_or, set, Some, Ok, Err, Result, sym, refl, ◌∙◌, zero-add, arith, get_or-set_other, get_or-set_same, eq-eqb, eqb-true}
+use Rattle.std.proofs.Common.{◌≡◌, ℕ, suc, ◌+◌, ◌-◌, ◌<◌, ◌≤◌, Bool, true, false, cond, not, ◌&&◌, eqb, ltb, leb, ◌≢◌, List, [], ◌∷◌, length, get_or, set, Some, Ok, Err, Result, sym, refl, ◌∙◌, zero-add, arith, get_or-set_other, get_or-set_same, eq-eqb, ne_eqb, eqb-true}
 use Rattle.std.proofs.Math.Logic.{by_cases}
 use Rattle.std.proofs.lemmas.Bool.{false≢true}
 use Rattle.std.proofs.Math.Decide.{ℕ_discrete}
@@ -8,7 +8,7 @@ use Rattle.counting.specs.Counts.{count}
 use Rattle.counting.proofs.Iterate.{by_bool}
 use Rattle.counting.proofs.Stores.{replicate_at}
 use Rattle.clauses.specs.Darts.{touches_of, dart_of}
-use Rattle.text.specs.Reading.{Listed, line_at, numbers_of}
+use Rattle.text.specs.Reading.{Listed, starts_with, line_at, numbers_of}
 use Rattle.text.specs.Reading.Listed.{listed, unlisted}
 use Rattle.text.specs.Shapes.{with_one, with_some, pair_of}
 use Rattle.text.specs.Keys.{bars_key, wires_key, wire_key, around_key}
@@ -17,9 +17,11 @@ use Rattle.clauses.specs.declared.Sheet.{Sheet}
 use Rattle.answers.specs.declared.Refusal.{Refusal}
 use Rattle.answers.specs.declared.Refusal.TheVariants.{BadLayout, CountOutOfLimits, BadEdge, BadRotation}
 use Rattle.load.specs.Rings.{is_rotation, link_from, link_ring}
-use Rattle.load.specs.Load.{Parsed, empty_sheet, with_edge, with_nexts, judged, ring_lines, edge_lines, with_count, load}
+use Rattle.load.specs.Load.{Parsed, empty_sheet, with_edge, with_nexts, judged, ring_lines, edge_lines, with_count, load_lines, load, parsed}
 use Rattle.answers.specs.Refusals.{answering}
+use Rattle.sheet.specs.Fresh.{fresh_sheet}
 use Rattle.sheet.specs.Check.{judge}
+use Rattle.load.specs.declared.Loaded.{Loaded}
 use Rattle.load.specs.Inner.{count_of, Apart, fit_from, linked_from, linked, Ringed, ringed, unringed, linked_on, ring_from}
 use Rattle.load.proofs.Occurrences.{rotation_if, rotation_length, rotation_fits}
 
@@ -143,13 +145,31 @@ wires_steps text n next = count_on (edges_of text n) 256 (line_at wires_key text
 abbrev wires_of : List ℕ → ℕ → ℕ → Parsed
 wires_of text n next = with_count (line_at wires_key text next) 256 (edges_of text n)
 
-pub bars_steps : (text : List ℕ) → load text ≡ count_by (wires_of text) (count_of 128 (line_at bars_key text 0))
-unfolding load
+pub bars_steps : (text : List ℕ) → load_lines text ≡ count_by (wires_of text) (count_of 128 (line_at bars_key text 0))
+unfolding load_lines
 bars_steps text = count_on (wires_of text) 128 (line_at bars_key text 0)
 
 -- both counts are read: the edge lines are left
-pub after_counts : (text : List ℕ) (n next m after : ℕ) → Ok (n, next) ≡ count_of 128 (line_at bars_key text 0) → Ok (m, after) ≡ count_of 256 (line_at wires_key text next) → edges_of text n m after ≡ load text
+pub after_counts : (text : List ℕ) (n next m after : ℕ) → Ok (n, next) ≡ count_of 128 (line_at bars_key text 0) → Ok (m, after) ≡ count_of 256 (line_at wires_key text next) → edges_of text n m after ≡ load_lines text
 after_counts text n next m after e f = sym (bars_steps text ∙ rw (← e) (wires_steps text n next ∙ rw (← f) refl))
+
+-- ---- no bytes, or some
+
+pub load_by : (text : List ℕ) → load text ≡ cond (eqb (length text) 0) (parsed fresh_sheet 0) (load_lines text)
+unfolding load
+load_by [] = refl
+load_by (b ∷ text) = rw (ne_eqb (length (b ∷ text)) 0 (λ e. omega arith)) refl
+
+-- no bytes are no lines of a sheet
+no_lines : load_lines [] ≡ Err BadLayout
+unfolding load_lines with_count with_one line_at starts_with
+no_lines = refl
+
+-- where the lines of a sheet are read, there are some bytes
+pub lines_accepted : (text : List ℕ) {l : Loaded} → load_lines text ≡ Ok l → load text ≡ Ok l
+unfolding load
+lines_accepted [] {l} e = let z : ◌≡◌ {A = Parsed} (Err BadLayout) (Ok l) = sym no_lines ∙ e in cc
+lines_accepted (b ∷ text) e = e
 
 pub ruleset edge_turns = (edges_over, edges_step)
 

@@ -1,5 +1,5 @@
 -- Load: a sheet from the front of a text, line by line; on a line, shape first.
-use Rattle.std.specs.Prelude.{ℕ, zero, suc, ◌+◌, not, ◌&&◌, List, eqb, ltb, leb, set, replicate, Result, Ok, Err}
+use Rattle.std.specs.Prelude.{ℕ, zero, suc, ◌+◌, not, ◌&&◌, List, [], ◌∷◌, eqb, ltb, leb, set, replicate, Result, Ok, Err}
 use Rattle.counting.specs.Choice.{pick}
 use Rattle.text.specs.Reading.{Listed, line_at}
 use Rattle.text.specs.Shapes.{with_one, with_two, with_some}
@@ -7,6 +7,7 @@ use Rattle.clauses.specs.declared.Sheet.{Sheet}
 use Rattle.answers.specs.declared.Refusal.{Refusal}
 use Rattle.answers.specs.declared.Refusal.TheVariants.{BadLayout, CountOutOfLimits, BadEdge, BadRotation}
 use Rattle.answers.specs.Refusals.{answering}
+use Rattle.sheet.specs.Fresh.{fresh_sheet}
 use Rattle.sheet.specs.Check.{judge}
 use Rattle.load.specs.declared.Loaded.{Loaded}
 use Rattle.text.specs.Keys.{bars_key, wires_key, wire_key, around_key}
@@ -55,11 +56,16 @@ with_count line most good =
     with_one line (Err BadLayout) (λ n next. pick (leb 2 n && leb n most) (λ _. good n next) (λ _. Err CountOutOfLimits))
 
 -- the lines `bars=n` and `wires=m`, and what follows them
-unfoldable pub load : List ℕ → Parsed
-load text =
+unfoldable pub load_lines : List ℕ → Parsed
+load_lines text =
     with_count (line_at bars_key text 0) 128 (λ n next.
     with_count (line_at wires_key text next) 256 (λ m after.
     edge_lines m text (empty_sheet n m) 0 after))
+
+-- A load of no bytes yields the fresh sheet with 0 bytes taken, so 0 bytes taken is no sign of a refusal. Text of one byte or more is read line by line.
+unfoldable pub load : List ℕ → Parsed
+load [] = parsed fresh_sheet 0
+load (b ∷ text) = load_lines (b ∷ text)
 
 -- what load returns beside its answer: refused, the present sheet comes back, and 0 bytes are taken
 unfoldable pub returned : Sheet → Parsed → Loaded

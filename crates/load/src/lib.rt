@@ -2,7 +2,7 @@
 #![tactic(auto)]
 
 ghost use Rattle.std.specs.Prelude.{◌≡◌};
-ghost use Rattle.load.specs.Load.{load, returned};
+ghost use Rattle.load.specs.Load.{load_lines, load, returned};
 
 use answers::Refusal;
 use sheet::Sheet;
@@ -18,10 +18,10 @@ pub struct Loaded {
     pub taken: usize,
 }
 
-// Reads a sheet from the front of the text, and tells how many bytes it took: line by line, then the rules on the whole sheet.
+// Reads the lines of a sheet from the front of the text: line by line, then the rules on the whole sheet.
 #[tactic(auto, using(crate::proofs::Turns::load_turns), unfolding(crate::specs::Load::empty_sheet, crate::specs::Load::with_nexts))]
-pub fn load(text: &[u8]) -> Result<Loaded, Refusal>
-    ensures { result ≡ load text.now }
+fn load_lines(text: &[u8]) -> Result<Loaded, Refusal>
+    ensures { result ≡ load_lines text.now }
 {
     let mut reader = Reader { text, at: 0 };
     let vertices = lines::count_line(&mut reader, b"bars=", 128)?;
@@ -45,6 +45,20 @@ pub fn load(text: &[u8]) -> Result<Loaded, Refusal>
         sheet,
         taken: reader.at,
     })
+}
+
+// Reads a sheet from the front of the text, and tells how many bytes it took. Of no bytes it makes the fresh sheet.
+#[tactic(auto, using(crate::proofs::Turns::load_by))]
+pub fn load(text: &[u8]) -> Result<Loaded, Refusal>
+    ensures { result ≡ load text.now }
+{
+    if text.is_empty() {
+        return Ok(Loaded {
+            sheet: sheet::fresh(),
+            taken: 0,
+        });
+    }
+    load_lines(text)
 }
 
 // What load returns beside its answer: refused, the present sheet comes back, and 0 bytes are taken.

@@ -21,9 +21,10 @@ use Rattle.soundness.proofs.Clauses.{limits_law, joined_law, unused_law, edge_sa
 use Rattle.soundness.proofs.Rings.{rings_law}
 use Rattle.soundness.proofs.Judge.{judge_law}
 use Rattle.soundness.proofs.Law.{sound_law}
+use Rattle.soundness.proofs.Fresh.{fresh_law, fresh_sized}
 use Rattle.load.specs.Rings.{is_rotation, link_ring}
 use Rattle.text.specs.Keys.{bars_key, wires_key, wire_key, around_key}
-use Rattle.load.specs.Load.{Parsed, empty_sheet, with_edge, with_nexts, judged, ring_lines, edge_lines, with_count, load}
+use Rattle.load.specs.Load.{Parsed, empty_sheet, with_edge, with_nexts, judged, ring_lines, edge_lines, with_count, load_lines, load}
 use Rattle.roundtrip.specs.Laws.{LoadedSound}
 use Rattle.roundtrip.proofs.Around.{Around, around_law}
 use Rattle.soundness.proofs.Ends.{at_below}
@@ -175,14 +176,20 @@ unfolding with_count
 count_good key text at most good f = one_shaped (line_reads key text at) Good _ _ (λ _. tt) (λ n next _.
     pick_each Good (leb 2 n && leb n most) _ _ (λ t. let (l, m) = (and_says (le_says 2 n) (le_says n most)).0 t in f n next l m) (λ _. tt))
 
-parse_good : (text : List ℕ) → Good (load text)
-unfolding load empty_sheet
-parse_good text = count_good bars_key text 0 128 _ (λ n next a b.
+lines_good : (text : List ℕ) → Good (load_lines text)
+unfolding load_lines empty_sheet
+lines_good text = count_good bars_key text 0 128 _ (λ n next a b.
     count_good wires_key text next 256 _ (λ m after c d.
     edges_good text m (empty_sheet n m) 0 after (omega arith) (empty_read n m a b c d)))
 
+-- no bytes give the fresh sheet
+load_good : (text : List ℕ) → Good (load text)
+unfolding load
+load_good [] = (fresh_sized, fresh_law)
+load_good (b ∷ text) = lines_good (b ∷ text)
+
 pub loaded_sound : LoadedSound
-loaded_sound text l e = go (load text) (parse_good text) e
+loaded_sound text l e = go (load text) (load_good text) e
   where
     go : (p : Parsed) → Good p → p ≡ Ok l → Sized l.sheet × Sound l.sheet
     go (Ok m) g e = subst Good e g

@@ -24,7 +24,8 @@ use Rattle.soundness.proofs.Law.{sound_law}
 use Rattle.text.specs.Keys.{bars_key, wires_key, wire_key, around_key}
 use Rattle.load.specs.Rings.{is_rotation, link_ring}
 use Rattle.writesheet.specs.Rings.{rotation}
-use Rattle.load.specs.Load.{Parsed, empty_sheet, with_edge, with_nexts, judged, ring_lines, edge_lines, with_count, parsed, load}
+use Rattle.load.specs.Load.{Parsed, empty_sheet, with_edge, with_nexts, judged, ring_lines, edge_lines, with_count, parsed, load_lines, load}
+use Rattle.load.proofs.Turns.{lines_accepted}
 use Rattle.writesheet.specs.Write.{sheet_lines, sheet_text}
 use Rattle.roundtrip.specs.Laws.{RoundTripLaw, MixedRoundTrip}
 use Rattle.roundtrip.proofs.Entries.{zeros, Filled, filled_none, filled_more, filled_all}
@@ -132,9 +133,9 @@ module _ (s : Sheet) (z : Sized s) (S : Sound s) (ring : ℕ → List ℕ) (rota
   placed_none = record { sized = length-replicate {A = ℕ} 512 0; done = λ d h l. absurd (omega arith); unused = λ d h. replicate_at 0 512 d }
 
   -- the whole text stands at the front
-  parse_back : (text us : List ℕ) → MixedEnds (sheet_lines s ring) us → Stands text 0 us → load text ≡ parsed s (length us)
-  unfolding load empty_sheet partly join_below endless
-  parse_back text us m H =
+  whole_back : (text us : List ℕ) → MixedEnds (sheet_lines s ring) us → Stands text 0 us → load_lines text ≡ parsed s (length us)
+  unfolding load_lines empty_sheet partly join_below endless
+  whole_back text us m H =
       let last = mixed_parts (bars ++ wires ++ edges) rings us m in
       let third = mixed_parts (bars ++ wires) edges last.front last.front_mixed in
       let second = mixed_parts bars wires third.front third.front_mixed in
@@ -168,7 +169,7 @@ module _ (s : Sheet) (z : Sized s) (S : Sound s) (ring : ℕ → List ℕ) (rota
       rings = join_below (ring_text ring) s.vertices
 
   pub lines_back : (text : List ℕ) → MixedEnds (sheet_lines s ring) text → (rest : List ℕ) → load (text ++ rest) ≡ parsed s (length text)
-  lines_back text m rest = parse_back (text ++ rest) text m (stands_front text rest)
+  lines_back text m rest = lines_accepted (text ++ rest) (whole_back (text ++ rest) text m (stands_front text rest))
 
 pub mixed_round_trip : MixedRoundTrip
 unfolding sheet_text

@@ -9,7 +9,7 @@ use crate::load::load;
 use crate::plate::MAX_INPUT;
 use crate::sheet::{Sheet, MAX_EDGES, MAX_VERTICES};
 
-/// An endless sequence of inputs: good ones, damaged ones, and ones at the limits.
+/// An endless sequence of inputs: good ones, damaged ones, blank ones, and ones at the limits.
 pub struct Inputs {
     random: Random,
     extremes: Vec<Sheet>,
@@ -74,7 +74,8 @@ impl Iterator for Inputs {
         Some(match self.random.below(64) {
             0 => self.long(),
             1 => {
-                let length = self.random.below(80);
+                let most = self.random.pick(&[0, 0, 2, 79]);
+                let length = self.random.below(most + 1);
                 noise(&mut self.random, length)
             }
             2..=7 => self.refused_after_last_line(),
@@ -159,6 +160,7 @@ pub fn special_inputs() -> Vec<Vec<u8>> {
     let fresh = sheet_text(random, &Sheet::fresh());
     let wide = sheet_text(random, &parallel(256));
     let mut inputs: Vec<Vec<u8>> = vec![Vec::new(), b"\n".to_vec(), b"\r\n".to_vec()];
+    inputs.push(b"in=1\nrun=0,1,2,2\n".to_vec());
     let sizes = [MAX_INPUT - 1, MAX_INPUT, MAX_INPUT + 1, MAX_INPUT + 2, 4 * MAX_INPUT];
     for size in sizes {
         for filler in
@@ -187,5 +189,6 @@ pub fn special_inputs() -> Vec<Vec<u8>> {
         inputs.push([&fresh, format!("in=1{end}out=1{end}off=2").as_bytes()].concat());
         inputs.extend(truncations(&fresh).map(Vec::from));
     }
+    inputs.extend((0..=u8::MAX).map(|byte| vec![byte]));
     inputs
 }

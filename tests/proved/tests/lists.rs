@@ -30,7 +30,7 @@ fn same_drawing(sheet: &Sheet, room: usize) -> u16 {
 #[test]
 fn lists_of_loads_and_edits_agree() {
     let random = &mut Random::new(41);
-    let mut seen = [0usize; 19];
+    let (mut seen, mut blank) = ([0usize; 19], 0);
     for list in 0..600 {
         let mut sheet = if list % 3 == 0 { Sheet::fresh() } else { random_sheet(random) };
         for step in 0..80 {
@@ -39,7 +39,12 @@ fn lists_of_loads_and_edits_agree() {
                     let loaded = random_sheet(random);
                     let text = sheet_text(random, &loaded);
                     let text = mixed_ends(random, &text);
-                    let text = if random.one_in(2) { damaged(random, &text) } else { text };
+                    let text = match random.below(8) {
+                        0 => Vec::new(),
+                        1..=4 => damaged(random, &text),
+                        _ => text,
+                    };
+                    blank += usize::from(text.is_empty());
                     let (answer, expected, taken) = reference::load(&text, &sheet);
                     let ours = proved::load(&text, &sheet);
                     assert!(ours == (answer.map_or_else(u16::from, |()| 0), expected, taken), "load in list {list}");
@@ -59,7 +64,7 @@ fn lists_of_loads_and_edits_agree() {
             }
         }
     }
-    assert!(seen[0] > 10_000, "{seen:?}");
+    assert!(seen[0] > 10_000 && blank > 100, "{seen:?} {blank}");
     for number in [10, 11, 12, 13, 14, 15, 16] {
         assert!(seen[number] > 50, "refusal {number}: {seen:?}");
     }

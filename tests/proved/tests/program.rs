@@ -59,7 +59,7 @@ fn examples() -> Vec<(PathBuf, Vec<u8>, Vec<u8>)> {
 #[test]
 fn examples_give_their_outputs() {
     let examples = examples();
-    assert_eq!(examples.len(), 15);
+    assert_eq!(examples.len(), 17);
     for (path, input, expected) in examples {
         let shown = |bytes: &[u8]| String::from_utf8_lossy(bytes).into_owned();
         assert_eq!(shown(&run(&input)), shown(&expected), "{}", path.display());
@@ -74,7 +74,7 @@ fn examples_give_their_outputs_in_both_line_ends() {
     for (path, input, expected) in examples() {
         let plain: Vec<u8> = input.iter().copied().filter(|&byte| byte != 13).collect();
         let ended: Vec<u8> = plain.iter().flat_map(|&byte| [13, byte].into_iter().skip(usize::from(byte != 10))).collect();
-        assert!(ended.len() > plain.len() && !ended.windows(2).any(|pair| pair[0] != 13 && pair[1] == 10));
+        assert!((ended.len() > plain.len() || plain.is_empty()) && !ended.windows(2).any(|pair| pair[0] != 13 && pair[1] == 10));
         assert_eq!(run(&ended), expected, "{} with 13 10", path.display());
         for _ in 0..8 {
             let mixed = mixed_ends(random, &plain);
@@ -136,7 +136,7 @@ fn the_program_reads_input_that_comes_in_pieces() {
 fn the_program_prints_nothing_where_it_cannot_read() {
     let folder = start(Stdio::from(File::open(repository()).expect("the folder")));
     assert_eq!(printed(folder.wait_with_output().expect("it ends"), b"a folder"), b"");
-    assert_eq!(run(b""), b"refused=1\n", "an input of no bytes is one that it can read");
+    assert_eq!(run(b""), b"rows=2\ncolumns=2\nbar=0,0,1\nbar=1,0,1\nwire=1,0,1\nwire=0,0,1\n", "an input of no bytes is one that it can read");
 }
 
 #[test]

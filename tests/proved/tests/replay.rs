@@ -100,6 +100,9 @@ struct List {
     numbers: Vec<usize>,
     text: Vec<u8>,
     answers: Vec<[usize; 2]>,
+    /// How many loads are accepted, and how many of them are blank.
+    loaded: usize,
+    blank: usize,
     sheet: Sheet,
 }
 
@@ -107,7 +110,7 @@ impl List {
     /// A list of `count` calls, and up to four numbers that are no call.
     fn new(random: &mut Random, count: usize) -> List {
         let (text, places) = texts(random);
-        let mut list = List { numbers: Vec::new(), text, answers: Vec::new(), sheet: Sheet::fresh() };
+        let mut list = List { numbers: Vec::new(), text, answers: Vec::new(), loaded: 0, blank: 0, sheet: Sheet::fresh() };
         for _ in 0..count {
             let call = if random.one_in(5) {
                 any_load(random, list.text.len(), &places)
@@ -119,6 +122,10 @@ impl List {
             let (number, after, taken) = expected_of(&list.sheet, call, &list.text);
             list.numbers.extend(call);
             list.answers.push([number, taken]);
+            if call[0] == 4 && number == 0 {
+                list.loaded += 1;
+                list.blank += usize::from(part(&list.text, call[1], call[2]).is_empty());
+            }
             list.sheet = after;
         }
         for _ in 0..random.below(5) {
@@ -145,7 +152,7 @@ impl List {
 #[test]
 fn three_thousand_lists_of_calls_agree() {
     let random = &mut Random::new(71);
-    let (mut seen, mut loaded) = ([0usize; 19], 0);
+    let (mut seen, mut loaded, mut blank) = ([0usize; 19], 0, 0);
     for _ in 0..3_000 {
         let count = random.between(1, 40);
         let list = List::new(random, count);
@@ -154,12 +161,13 @@ fn three_thousand_lists_of_calls_agree() {
         let room = random.pick(&[0, 1, all - 1, all + 1, all + 2, all + 33]);
         list.agrees(room);
         list.agrees(random.below(all));
-        for [number, taken] in list.answers {
+        for [number, _] in list.answers {
             seen[number] += 1;
-            loaded += usize::from(taken > 0);
         }
+        loaded += list.loaded - list.blank;
+        blank += list.blank;
     }
-    assert!(loaded > 1_000 && seen[0] > 20_000, "{loaded} {seen:?}");
+    assert!(loaded > 1_000 && blank > 1_000 && seen[0] > 20_000, "{loaded} {blank} {seen:?}");
     assert_eq!(seen[9], 0, "every list has sound sheets");
     for number in (1..=8).chain(10..=16) {
         assert!(seen[number] > 50, "refusal {number}: {seen:?}");
@@ -187,7 +195,7 @@ fn calls_of_any_numbers_agree() {
             for p in numbers {
                 let call = [kind, a, p, 1, 1];
                 let (number, sheet, taken) = expected_of(&Sheet::fresh(), call, b"bars=02\n");
-                let list = List { numbers: call.to_vec(), text: b"bars=02\n".to_vec(), answers: vec![[number, taken]], sheet };
+                let list = List { numbers: call.to_vec(), text: b"bars=02\n".to_vec(), answers: vec![[number, taken]], loaded: 0, blank: 0, sheet };
                 list.agrees(2);
             }
         }

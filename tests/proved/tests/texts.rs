@@ -56,11 +56,26 @@ fn load_agrees_on_special_and_extreme_texts() {
     for text in truncations(&sheet_text(random, &sheets::path(5))) {
         same_load(text, &present);
     }
-    for text in [b"".as_slice(), b"bars=2", b"\xff\xfe\n", b"bars=128\n", b"bars=129\n", b"bars=1\n", b"bars=02\n", b"bars=2\nwires=257\n"] {
+    for text in [b"".as_slice(), b"\n", b"\r\n", b" ", b"in=1\n", b"bars=2", b"\xff\xfe\n", b"bars=128\n", b"bars=129\n", b"bars=1\n", b"bars=02\n", b"bars=2\nwires=257\n"] {
         same_load(text, &present);
     }
     assert_eq!(proved::load(b"bars=129\n", &present).0, 2);
     assert_eq!(proved::load(b"bars=02\n", &present).0, 1);
+}
+
+#[test]
+fn a_load_of_no_bytes_yields_the_fresh_sheet() {
+    for present in Records::new(38).take(3_000) {
+        same_load(b"", &present);
+        assert!(proved::load(b"", &present) == (0, Sheet::fresh(), 0), "accepted, 0 bytes taken, whatever the present sheet");
+    }
+    let present = sheets::path(3);
+    for byte in 0..=u8::MAX {
+        assert_eq!(same_load(&[byte], &present), 1, "a text of the one byte {byte}");
+        for second in 0..=u8::MAX {
+            assert_eq!(same_load(&[byte, second], &present), 1, "a text of the bytes {byte} and {second}");
+        }
+    }
 }
 
 /// Compares one write; tells its number. The buffer holds other bytes first.

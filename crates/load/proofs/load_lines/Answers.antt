@@ -3,7 +3,7 @@ use Rattle.std.proofs.lemmas.Grind.{common_steps}
 use Rattle.load.specs.Load.{empty_sheet, with_nexts}
 use Rattle.load.proofs.Ends.{counted_none}
 use Rattle.load.proofs.Turns.{after_counts, judged_steps}
-use Rattle.load.proofs.load.Goals as goal
+use Rattle.load.proofs.load_lines.Goals as goal
 use Rattle.counting.proofs.Stores.{replicate_at}
 
 pub edge_lines-requires : goal.edge_lines-requires
