@@ -43,7 +43,8 @@ typedef struct {
 
 /* Load: reads a sheet from the front of the text into the sheet's parts; `taken` gets the number of bytes read. A line, an
  * edit line too, may end in byte 10 alone or in 13 followed by 10.
- * A text of no bytes, of length 0, gives the fresh sheet, whatever the parts held: the call answers 0, and `taken` gets 0.
+ * A text of no bytes, of length 0, gives the fresh sheet, whatever the parts held: the call answers 0, and `taken` gets 0
+ * (`text` is no null pointer then either).
  * Refused (1 to 8) the parts keep what they held and `taken` gets 0; so only the answer tells whether it was refused. */
 uint16_t walnut_load(const uint8_t *text, size_t length, size_t *bars, size_t *wires, uint16_t tails[WALNUT_WIRES],
                      uint16_t heads[WALNUT_WIRES], uint16_t nexts[WALNUT_ENDS], size_t *taken);

@@ -36,6 +36,7 @@ fn random_call(random: &mut Random, sheet: &Sheet) -> (Answer, Sheet) {
             }
             let (answer, new, taken) = load(&text, sheet);
             assert_eq!(taken > 0, answer.is_ok() && !text.is_empty());
+            assert!(!text.is_empty() || (answer, new) == (Ok(()), Sheet::fresh()));
             (answer, new)
         }
         1..=3 => {

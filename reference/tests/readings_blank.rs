@@ -33,7 +33,7 @@ fn f9_plate_prints_the_fresh_drawing() {
     assert_eq!(printed(b""), printed(&lines(FRESH)));
 }
 
-/// "0 bytes taken is no longer a sign of refusal": the answer alone tells it.
+/// 0 bytes taken is no sign of a refusal: the answer alone tells it.
 #[test]
 fn f10_accepted_with_0_bytes_taken() {
     for present in Records::new(131).take(500) {

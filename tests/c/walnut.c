@@ -156,7 +156,7 @@ static void check_replay(void) {
         check(same == 14, "answers are put two by two, and the rest is untouched");
     }
 
-    /* A blank load in a list: a part that ends where it begins, behind the edits of P4. */
+    /* A blank load in a list, a part that ends where it begins, after P4 and `in=1`; then P5's edits. */
     const size_t blank_calls[] = {WALNUT_LOAD, 0, strlen(p4), 0, 0, WALNUT_IN, 1, 0, 0, 0, WALNUT_LOAD, 7, 7, 0, 0,
                                   WALNUT_IN, 1, 0, 0, 0, WALNUT_RUN, 0, 1, 2, 2};
     const size_t blank_answers[10] = {0, strlen(p4), 0, 0, 0, 0, 0, 0, 0, 0};

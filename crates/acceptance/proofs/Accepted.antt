@@ -1,4 +1,4 @@
--- A text that load accepts is that of a sound sheet, each ring turned, and any bytes after it. Assumes nothing.
+-- A text whose lines load accepts is that of a sound sheet, each ring turned, and any bytes after it. Assumes nothing.
 use Rattle.std.proofs.Common.{◌≡◌, refl, sym, ◌∙◌, ap, subst, ◌≢◌, List, [], ◌∷◌, ◌++◌, append_assoc, append-nil, ℕ, ◌+◌, ◌≤◌, ◌<◌, add-one, zero-add, arith, get_or, length, take, drop, length-append, take-append-drop, get_or-take, ext_get_or, length-take-le}
 use Rattle.std.proofs.Math.Logic.{by_cases}
 use Rattle.std.proofs.Math.Decide.{ℕ_discrete}

@@ -1,4 +1,4 @@
--- Load accepts no bytes, and exactly the texts that begin with a sound sheet, each ring turned anyhow, with line ends of both kinds. Assumes nothing.
+-- Load accepts the text of no bytes, and exactly the texts that begin with a sound sheet, each ring turned anyhow, with line ends of both kinds. Assumes nothing.
 use Rattle.std.proofs.Common.{Ok, Err, is_ok, true, ◌≡◌, ◌⊎◌, inl, inr, refl, sym, ◌∙◌, ap, subst, List, [], ◌∷◌, ◌++◌, ℕ, suc, ◌<◌, arith, get_or, length, drop}
 use Rattle.std.proofs.Math.Logic.{by_cases}
 use Rattle.std.proofs.Math.Decide.{dec_lt}
@@ -118,18 +118,19 @@ lines_begin text l e =
     described_begins all.n w.tails w.heads a.rings (returned l.sheet (load_lines text)).sheet is a.described w.same
     (λ v h. a.each.its v (omega (arith, a.full))) (λ v h. a.each.some v (omega (arith, a.full))) text all.m a.taken w.count a.lines
 
-accepted_begins : (text : List ℕ) → is_ok (load text) ≡ true → (text ≡ []) ⊎ Begins text
+accepted_begins : (text : List ℕ) → is_ok (load text) ≡ true → (length text ≡ 0) ⊎ Begins text
 unfolding load
-accepted_begins [] t = inl refl
+accepted_begins [] t = inl (omega arith)
 accepted_begins (b ∷ text) t = inr (go (load_lines (b ∷ text)) refl t)
   where
     go : (p : Parsed) → load_lines (b ∷ text) ≡ p → is_ok p ≡ true → Begins (b ∷ text)
     go (Ok l) e t = lines_begin (b ∷ text) l e
     go (Err r) e t = absurd (false≢true t)
 
-begins_accepted : (text : List ℕ) → (text ≡ []) ⊎ Begins text → is_ok (load text) ≡ true
+begins_accepted : (text : List ℕ) → (length text ≡ 0) ⊎ Begins text → is_ok (load text) ≡ true
 unfolding load
-begins_accepted text (inl e) = rw e refl
+begins_accepted [] (inl e) = refl
+begins_accepted (b ∷ text) (inl e) = absurd (omega arith)
 begins_accepted text (inr B) = ap is_ok (ap load B.whole ∙ load_gives B.sheet B.sized B.sound B.turn B.lines B.mixed B.rest)
 
 pub load_accepts : LoadAccepts

@@ -1,5 +1,5 @@
 -- Which texts load accepts, and which number falls otherwise.
-use Rattle.std.specs.Prelude.{◌≡◌, ◌↔◌, ◌⊎◌, List, [], ◌++◌, ℕ, length, take, drop, true, Ok, is_ok}
+use Rattle.std.specs.Prelude.{◌≡◌, ◌↔◌, ◌⊎◌, List, ◌++◌, ℕ, length, take, drop, true, Ok, is_ok}
 use Rattle.layout.specs.Mixed.{MixedEnds}
 use Rattle.answers.specs.Answers.{answer_number}
 use Rattle.clauses.specs.declared.Sheet.{Sheet}
@@ -38,11 +38,11 @@ pub record Begins (text : List ℕ) : Type 0 where
   pub rest : List ℕ
   pub whole : text ≡ lines ++ rest
 
--- Load accepts no bytes, and exactly these texts.
+-- Load accepts the text of no bytes, and besides it exactly these texts.
 abbrev pub LoadAccepts : Type 0
-LoadAccepts = (text : List ℕ) → is_ok (load text) ≡ true ↔ ((text ≡ []) ⊎ Begins text)
+LoadAccepts = (text : List ℕ) → is_ok (load text) ≡ true ↔ ((length text ≡ 0) ⊎ Begins text)
 
--- Of these it gives that sheet, and takes its bytes.
+-- Of a text that begins so it gives that sheet, and takes its bytes.
 abbrev pub LoadGives : Type 0
 LoadGives = (s : Sheet) → Sized s → Sound s → (turn : ℕ → ℕ) (lines : List ℕ) → MixedEnds (turned_text s turn) lines → (rest : List ℕ)
     → load (lines ++ rest) ≡ Ok (record { sheet = s; taken = length lines })

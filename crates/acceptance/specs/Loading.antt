@@ -1,4 +1,4 @@
--- Load as document 01 lays it down: 'Line by line; on a line, shape first: 1 … 2 … 3 … 4 … After the last line: 5, 6, 7, 8.'; and document 02 of no bytes.
+-- Load as document 01 lays it down: 'Line by line; on a line, shape first: 1 … 2 … 3 … 4 … After the last line: 5, 6, 7, 8.', and document 02 a load of no bytes.
 use Rattle.std.specs.Prelude.{ℕ, suc, ◌≤◌, ◌<◌, ◌≡◌, ◌≢◌, ◌⊎◌, List, [], ◌∷◌, ◌++◌, get_or, length}
 use Rattle.counting.specs.Paths.{Circle}
 use Rattle.text.specs.Keys.{bars_key, wires_key, wire_key, around_key}
@@ -22,7 +22,7 @@ pub record Result : Type 0 where
 abbrev pub refusal : Sheet → ℕ → Result
 refusal present number = record { number = number; sheet = present; taken = 0 }
 
--- a sheet from the front of the text, and how many bytes it took
+-- the sheet, and how many bytes of the text it took
 abbrev pub acceptance : Sheet → ℕ → Result
 acceptance s taken = record { number = 0; sheet = s; taken = taken }
 
@@ -115,6 +115,8 @@ pub data BarsLine (text : List ℕ) (present : Sheet) (r : Result) (at : ℕ) : 
   -- 2 n outside its limits
   bad_bars : {n after : ℕ} → LineAt bars_key text at (n ∷ []) after → Outside 128 n → r ≡ refusal present 2 → BarsLine text present r at
   bars : {n after : ℕ} → LineAt bars_key text at (n ∷ []) after → ¬ Outside 128 n → WiresLine text present r n after → BarsLine text present r at
+
+-- ---- no bytes, or some
 
 -- Load answers `number`, `sheet` and `taken` to the text and the present sheet. A load of no bytes yields the fresh sheet with 0 bytes taken; text of one byte or more
 -- is read line by line from its front.

@@ -1,5 +1,5 @@
--- The sheet that a text describes, whether it is sound or not: the one that load judges after the last line, or the fresh one.
-use Rattle.std.specs.Prelude.{ℕ, zero, suc, ◌+◌, ◌≤◌, List, [], ◌∷◌, length, Err}
+-- The sheet that a text describes, whether it is sound or not: the one that load judges after the last line, or, of no bytes, the fresh one.
+use Rattle.std.specs.Prelude.{ℕ, zero, suc, ◌+◌, ◌≤◌, List, [], ◌∷◌, Err}
 use Rattle.text.specs.Keys.{bars_key, wires_key, wire_key, around_key}
 use Rattle.text.specs.Reading.{line_at}
 use Rattle.text.specs.Shapes.{with_one, with_two, with_some}
@@ -33,10 +33,10 @@ unfoldable pub described : List ℕ → Sheet
 described [] = fresh_sheet
 described (b ∷ text) = lines_described (b ∷ text)
 
--- what load makes of lines that describe the sheet s: it judges s after the last line, or refuses a line, 1 to 4
+-- what load makes of a text that describes the sheet s: it judges s after the last line, or refuses a line, 1 to 4; the fresh sheet passes
 pub data Read (s : Sheet) : Parsed → Type 0 where
   last_line : (next : ℕ) → Read s (judged s next)
   refused_line : (r : Refusal) → 1 ≤ refusal_number r → refusal_number r ≤ 4 → Read s (Err r)
 
 abbrev pub DescribedLaw : Type 0
-DescribedLaw = (text : List ℕ) → 1 ≤ length text → Read (described text) (load text)
+DescribedLaw = (text : List ℕ) → Read (described text) (load text)

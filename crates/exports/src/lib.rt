@@ -196,8 +196,8 @@ pub extern "C" fn walnut_edit(
 }
 
 // A list of calls from the fresh sheet, five numbers a call: its kind (0 in, 1 run, 2 out, 3 off, 4 load; any other is refused 10) and four numbers;
-// a load takes the bytes of the text from the first of them up to the second, where there are none the fresh sheet. Each call's number and bytes taken are put into the
-// lent numbers, two a call, and the drawing of the sheet after the list is returned.
+// a load takes the bytes of the text from the first of them up to the second, and of no bytes it gives the fresh sheet. Each call's number and bytes taken
+// are put into the lent numbers, two a call, and the drawing of the sheet after the list is returned.
 #[unsafe(no_mangle)]
 pub extern "C" fn walnut_replay(calls: &[usize], text: &[u8], answers: &mut [usize]) -> Drawing
     ensures { Replayed (calls_of calls.now text.now) answers.old result answers.new }

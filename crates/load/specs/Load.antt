@@ -1,4 +1,4 @@
--- Load: a sheet from the front of a text, line by line; on a line, shape first.
+-- Load: a sheet from the front of a text, line by line; on a line, shape first. No bytes give the fresh sheet.
 use Rattle.std.specs.Prelude.{ℕ, zero, suc, ◌+◌, not, ◌&&◌, List, [], ◌∷◌, eqb, ltb, leb, set, replicate, Result, Ok, Err}
 use Rattle.counting.specs.Choice.{pick}
 use Rattle.text.specs.Reading.{Listed, line_at}

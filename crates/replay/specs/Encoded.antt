@@ -4,7 +4,7 @@ use Rattle.std.proofs.Math.Seq.{slice}
 use Rattle.demand.specs.Calls.{Call}
 use Rattle.demand.specs.Calls.Call.{LoadText, PutIn, RunEdge, TakeOutEdge, TakeOutVertex}
 
--- kinds 0 in, 1 run, 2 out, 3 off, 4 load: of the text's bytes from number a up to, not including, number p, as far as it has them; where that is no byte, a blank load.
+-- kinds 0 in, 1 run, 2 out, 3 off, 4 load: of the text's bytes from number a up to, not including, number p, as far as it has them; where it has none, a blank load.
 -- Any other kind puts into a wire that no sheet has, which is refused 10.
 unfoldable pub call_by : (kind a p b q : ℕ) → List ℕ → Call
 call_by kind a p b q text =

@@ -69,6 +69,10 @@ fn a_load_of_no_bytes_yields_the_fresh_sheet() {
         same_load(b"", &present);
         assert!(proved::load(b"", &present) == (0, Sheet::fresh(), 0), "accepted, 0 bytes taken, whatever the present sheet");
     }
+}
+
+#[test]
+fn texts_of_one_or_two_bytes_are_refused_1() {
     let present = sheets::path(3);
     for byte in 0..=u8::MAX {
         assert_eq!(same_load(&[byte], &present), 1, "a text of the one byte {byte}");
