@@ -1,5 +1,5 @@
 -- Load judges the sheet that the lines describe.
-use Rattle.std.proofs.Common.{◌≡◌, subst, Err, ℕ, zero, suc, ◌+◌, ◌≤◌, Bool, true, false, not, ◌&&◌, List, [], ◌∷◌, arith, eqb, ltb, leb}
+use Rattle.std.proofs.Common.{subst, Err, ℕ, zero, suc, ◌+◌, ◌≤◌, Bool, true, false, not, ◌&&◌, List, [], ◌∷◌, arith, eqb, ltb, leb}
 use Rattle.counting.specs.Choice.{pick}
 use Rattle.text.specs.Keys.{bars_key, wires_key, wire_key, around_key}
 use Rattle.text.specs.Reading.{Listed, line_at}
@@ -8,14 +8,12 @@ use Rattle.text.specs.Shapes.{with_one, with_two, with_some}
 use Rattle.answers.specs.declared.Refusal.TheVariants.{BadLayout, CountOutOfLimits, BadEdge, BadRotation}
 use Rattle.answers.specs.declared.Refusal.{Refusal}
 use Rattle.answers.specs.Answers.{refusal_number}
-use Rattle.answers.specs.Refusals.{answering}
 use Rattle.clauses.specs.declared.Sheet.{Sheet}
 use Rattle.sheet.specs.Fresh.{fresh_sheet}
 use Rattle.soundness.proofs.Fresh.{fresh_law, fresh_sized}
-use Rattle.soundness.proofs.Judge.{passed_says, judge_law}
-use Rattle.soundness.proofs.Law.{sound_law}
 use Rattle.load.specs.Rings.{is_rotation, link_ring}
-use Rattle.load.specs.Load.{Parsed, empty_sheet, with_edge, with_nexts, judged, ring_lines, edge_lines, with_count, load_lines, load, parsed}
+use Rattle.load.specs.Load.{Parsed, empty_sheet, with_edge, with_nexts, ring_lines, edge_lines, with_count, load_lines, load}
+use Rattle.roundtrip.proofs.RoundTrip.{sound_judged}
 use Rattle.examples.specs.Described.{rings_from, edges_from, lines_described, described, Read, DescribedLaw}
 use Rattle.examples.specs.Described.Read.{last_line, refused_line}
 
@@ -92,14 +90,7 @@ lines_read text =
     one (empty_sheet n 0) (line_at wires_key text next) 256 _ _ (λ m after.
     edges_read m text (empty_sheet n m) 0 after))
 
--- the fresh sheet, judged, is accepted
-fresh_judged : judged fresh_sheet 0 ≡ parsed fresh_sheet 0
-unfolding judged answering
-fresh_judged =
-    let t = (sound_law fresh_sheet fresh_sized).1 fresh_law in
-    rw ((judge_law fresh_sheet ((passed_says fresh_sheet).0 t).lined).1 t)
-
 pub described_law : DescribedLaw
 unfolding described load
-described_law [] = subst (Read fresh_sheet) fresh_judged (last_line 0)
+described_law [] = subst (Read fresh_sheet) (sound_judged fresh_sheet fresh_sized fresh_law 0) (last_line 0)
 described_law (b ∷ text) = lines_read (b ∷ text)

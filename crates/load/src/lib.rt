@@ -18,7 +18,8 @@ pub struct Loaded {
     pub taken: usize,
 }
 
-// Reads the lines of a sheet from the front of the text: line by line, then the rules on the whole sheet.
+// Reads the lines of a sheet from the front of the text: line by line, then the rules on the whole sheet. Made part of `load`: as a call of its own it cost 2 to 5 %.
+#[inline(always)]
 #[tactic(auto, using(crate::proofs::Turns::load_turns), unfolding(crate::specs::Load::empty_sheet, crate::specs::Load::with_nexts))]
 fn load_lines(text: &[u8]) -> Result<Loaded, Refusal>
     ensures { result ≡ load_lines text.now }

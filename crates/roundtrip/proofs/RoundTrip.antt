@@ -64,14 +64,15 @@ count_step : (l : Listed) (n after most : ℕ) (good : ℕ → ℕ → Parsed) �
 unfolding with_count with_one
 count_step l n after most good e h k = rw (e, le-leb 2 n h, le-leb n most k)
 
+-- a sound sheet passes after the last line
+pub sound_judged : (s : Sheet) → Sized s → Sound s → (at : ℕ) → judged s at ≡ parsed s at
+unfolding judged answering
+sound_judged s z S at =
+    let t = (sound_law s z).1 S in
+    rw ((judge_law s ((passed_says s).0 t).lined).1 t)
+
 -- a sound sheet, and for each bar its wires clockwise, begun anywhere
 module _ (s : Sheet) (z : Sized s) (S : Sound s) (ring : ℕ → List ℕ) (rotates : (v : ℕ) → v < s.vertices → Rotated s v (ring v)) where
-  judged_back : (at : ℕ) → judged s at ≡ parsed s at
-  unfolding judged answering
-  judged_back at =
-      let t = (sound_law s z).1 S in
-      rw ((judge_law s ((passed_says s).0 t).lined).1 t)
-
   -- the next-ends of the bars below v are in their places
   record Placed (v : ℕ) (nexts : List ℕ) : Type 0 where
     sized : length nexts ≡ 512
@@ -105,7 +106,7 @@ module _ (s : Sheet) (z : Sized s) (S : Sound s) (ring : ℕ → List ℕ) (rota
     unfolding ring_lines with_nexts endless
     rings_back zero nexts v at e p P =
         let q : v ≡ s.vertices = omega arith in
-        rw (placed_all nexts (rw q at P), p, q, ← J.whole) (judged_back _)
+        rw (placed_all nexts (rw q at P), p, q, ← J.whole) (sound_judged s z S _)
     rings_back (suc r) nexts v at e p P =
         let T : Rotated s v (ring v) = rotates v (omega arith) in
         let numerals : Numerals (ring v) = record { some = T.some; small = λ i h. omega (arith, T.around.inside i h, S.limits.edges_most) } in
