@@ -49,6 +49,13 @@ typedef struct {
 uint16_t walnut_load(const uint8_t *text, size_t length, size_t *bars, size_t *wires, uint16_t tails[WALNUT_WIRES],
                      uint16_t heads[WALNUT_WIRES], uint16_t nexts[WALNUT_ENDS], size_t *taken);
 
+/* The load of links: as load, of a text with a line `link=a,b` in place of every `wire=` line. It chooses the directions:
+ * wire k joins the two bars of link k, in one order or the other; wire 0 goes from bar 0 to bar 1, and its line must be
+ * `link=0,1`. Refused: 1 to 5 and 8 as load (a `wire=` line is 1), and 19, in place of 6 and 7, where no choice of directions
+ * keeps the rules on circles and on bars 0 and 1. */
+uint16_t walnut_load_links(const uint8_t *text, size_t length, size_t *bars, size_t *wires, uint16_t tails[WALNUT_WIRES],
+                           uint16_t heads[WALNUT_WIRES], uint16_t nexts[WALNUT_ENDS], size_t *taken);
+
 /* Whether the sheet is sound. */
 bool walnut_is_sound(size_t bars, size_t wires, const uint16_t tails[WALNUT_WIRES], const uint16_t heads[WALNUT_WIRES],
                      const uint16_t nexts[WALNUT_ENDS]);
@@ -83,8 +90,8 @@ typedef struct {
     walnut_drawn_wire wires[WALNUT_WIRES];
 } walnut_drawing;
 
-/* The kind of a load in a list of calls. */
-enum { WALNUT_LOAD = 4 };
+/* The kinds of the two loads in a list of calls. */
+enum { WALNUT_LOAD = 4, WALNUT_LOAD_LINKS = 6 };
 
 /* A list of calls, made one after the other from the fresh sheet; answers the drawing of the sheet that they leave, which
  * always has one. Five numbers a call: its kind, then a, p, b and q of an edit; a load loads the bytes of the text from

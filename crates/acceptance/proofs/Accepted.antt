@@ -14,9 +14,11 @@ use Rattle.layout.proofs.Standing.{stands_nil, stands_append}
 use Rattle.layout.proofs.Mixed.{mixed_append, line_mixed}
 use Rattle.counting.proofs.Joined.{join_agree}
 use Rattle.clauses.specs.declared.Sheet.{Sheet}
-use Rattle.acceptance.specs.Loading.{Result, refusal, ItsWires, Describes, AroundLines, WireLines, WiresLine, BarsLine}
+use Rattle.load.specs.declared.Form.TheVariants.{Directed}
+use Rattle.load.specs.Load.{edge_key}
+use Rattle.acceptance.specs.Loading.{Result, refusal, Directions, ItsWires, Describes, AroundLines, EdgeLines, WiresLine, BarsLine}
 use Rattle.acceptance.specs.Loading.AroundLines.{no_around, bad_around, around, refused_last, accepted_last}
-use Rattle.acceptance.specs.Loading.WireLines.{no_wire, bad_wire, wire, last_wire}
+use Rattle.acceptance.specs.Loading.EdgeLines.{no_edge, bad_edge, edge, last_edge}
 use Rattle.acceptance.specs.Loading.WiresLine.{no_wires, bad_wires, wires}
 use Rattle.acceptance.specs.Loading.BarsLine.{no_bars, bad_bars, bars}
 
@@ -102,7 +104,7 @@ module _ (text : List ℕ) (present : Sheet) (r : Result) (zero_number : r.numbe
           (λ n. let k : v < length rings = omega (arith, length-append rings (ws ∷ [])) in
           rw (get_or-append rings (ws ∷ []) [] v k) (R.its v k, R.some v k))
 
-  around_lines : {n : ℕ} {tails heads : List ℕ} {rings : List (List ℕ)} {at : ℕ} (front : List ℕ) → AroundLines text present r n tails heads rings at → Rings tails heads rings
+  around_lines : {n : ℕ} {tails heads : List ℕ} {rings : List (List ℕ)} {at : ℕ} (front : List ℕ) → AroundLines Directed text present r n tails heads rings at → Rings tails heads rings
       → Front text (front ++ join_below (ring_line rings) (length rings)) at → AllRings front n tails heads
   around_lines front (no_around h f e) R F = never (omega arith) e
   around_lines front (bad_around h L f e) R F = never (omega arith) e
@@ -124,26 +126,24 @@ module _ (text : List ℕ) (present : Sheet) (r : Result) (zero_number : r.numbe
     pub tails : List ℕ
     pub heads : List ℕ
     pub count : length tails ≡ m
-    pub same : length heads ≡ length tails
     pub around_each : AllRings (front ++ join_below (wire_line tails heads) m) n tails heads
 
-  wire_lines : {n m : ℕ} {tails heads : List ℕ} {at : ℕ} (front : List ℕ) → WireLines text present r n m tails heads at → length heads ≡ length tails
+  wire_lines : {n m : ℕ} {tails heads : List ℕ} {at : ℕ} (front : List ℕ) → EdgeLines Directed text present r n m tails heads at → length heads ≡ length tails
       → Front text (front ++ join_below (wire_line tails heads) (length tails)) at → AllWires front n m
-  unfolding join_below
-  wire_lines front (no_wire h f e) q F = never (omega arith) e
-  wire_lines front (bad_wire h L f e) q F = never (omega arith) e
-  wire_lines front (wire {tails} {heads} {at} {a} {b} {after} h L f A) q F =
+  unfolding join_below edge_key Directions
+  wire_lines front (no_edge h f e) q F = never (omega arith) e
+  wire_lines front (bad_edge h L f e) q F = never (omega arith) e
+  wire_lines front (edge {firsts = tails} {seconds = heads} {at = at} {a = a} {b = b} {after = after} h L f A) q F =
       let on : front ++ join_below (wire_line tails heads) (length tails) ++ line wire_key (a ∷ b ∷ []) ≡ front ++ join_below (wire_line (tails ++ a ∷ []) (heads ++ b ∷ [])) (length (tails ++ a ∷ [])) =
       append_assoc front (join_below (wire_line tails heads) (length tails)) (line wire_key (a ∷ b ∷ []))
       ∙ ap (λ l. front ++ l) (wires_more tails heads a b q ∙ ap (join_below (wire_line (tails ++ a ∷ []) (heads ++ b ∷ []))) (sym (length-append tails (a ∷ [])))) in
       wire_lines front A (omega (arith, length-append tails (a ∷ []), length-append heads (b ∷ []))) (subst (λ l. Front text l after) on (front_more wire_key F L))
-  wire_lines {n} {m} front (last_wire {tails} {heads} {at} z A) q F = record {
+  wire_lines {n} {m} front (last_edge {firsts = tails} {seconds = heads} {at = at} z (et, eh) A) q F = record {
     tails = tails;
     heads = heads;
     count = z;
-    same = q;
     around_each = subst (λ k. AllRings (front ++ join_below (wire_line tails heads) k) n tails heads) z
-        (around_lines (front ++ join_below (wire_line tails heads) (length tails)) A (record { its = λ v h. absurd (omega arith); some = λ v h. absurd (omega arith) })
+        (around_lines (front ++ join_below (wire_line tails heads) (length tails)) (rw (et, eh) at A) (record { its = λ v h. absurd (omega arith); some = λ v h. absurd (omega arith) })
         (subst (λ l. Front text l at) (sym (append-nil (front ++ join_below (wire_line tails heads) (length tails)))) F));
   }
 
@@ -152,13 +152,13 @@ module _ (text : List ℕ) (present : Sheet) (r : Result) (zero_number : r.numbe
     pub m : ℕ
     pub wires_each : AllWires (line bars_key (n ∷ []) ++ line wires_key (m ∷ [])) n m
 
-  pub all_lines : BarsLine text present r 0 → AllLines
+  pub all_lines : BarsLine Directed text present r 0 → AllLines
   unfolding join_below
   all_lines (no_bars f e) = never (omega arith) e
   all_lines (bad_bars L o e) = never (omega arith) e
   all_lines (bars {n} L o W) = go W L
     where
-      go : {at : ℕ} → WiresLine text present r n at → LineAt bars_key text 0 (n ∷ []) at → AllLines
+      go : {at : ℕ} → WiresLine Directed text present r n at → LineAt bars_key text 0 (n ∷ []) at → AllLines
       go (no_wires f e) L = never (omega arith) e
       go (bad_wires M o e) L = never (omega arith) e
       go (wires {m} {after} M o A) L =

@@ -1,31 +1,26 @@
 -- Load accepts the text of no bytes, and exactly the texts that begin with a sound sheet, each ring turned anyhow, with line ends of both kinds. Assumes nothing.
-use Rattle.std.proofs.Common.{Ok, Err, is_ok, true, ◌≡◌, ◌⊎◌, inl, inr, refl, sym, ◌∙◌, ap, subst, List, [], ◌∷◌, ◌++◌, ℕ, suc, ◌<◌, arith, get_or, length, drop}
-use Rattle.std.proofs.Math.Logic.{by_cases}
+use Rattle.std.proofs.Common.{Ok, Err, is_ok, true, ◌≡◌, ◌⊎◌, inl, inr, refl, ◌∙◌, ap, subst, List, [], ◌∷◌, ◌++◌, ℕ, ◌<◌, arith, get_or, length, drop}
 use Rattle.std.proofs.Math.Decide.{dec_lt}
 use Rattle.std.proofs.lemmas.Bool.{false≢true}
-use Rattle.std.proofs.Math.Seq.{get_or_at}
-use Rattle.clauses.specs.Darts.{End}
 use Rattle.counting.specs.Below.{join_below}
 use Rattle.text.specs.Written.{line}
 use Rattle.text.specs.Keys.{bars_key, wires_key, wire_key, around_key}
 use Rattle.layout.specs.Mixed.{MixedEnds}
 use Rattle.answers.specs.Answers.{answer_number}
 use Rattle.clauses.specs.declared.Sheet.{Sheet}
-use Rattle.sheet.specs.Darts.{dart_at, tail, head}
+use Rattle.sheet.specs.Darts.{tail, head}
 use Rattle.sheet.specs.Sound.{Sound}
 use Rattle.writesheet.specs.Rings.{rotation}
-use Rattle.load.specs.Load.{Parsed, load_lines, load, returned}
+use Rattle.load.specs.declared.Form.TheVariants.{Directed}
+use Rattle.load.specs.Load.{Parsed, load_lines, load_from, load, returned}
 use Rattle.load.proofs.Turns.{lines_accepted}
 use Rattle.load.specs.declared.Loaded.{Loaded}
-use Rattle.roundtrip.proofs.Around.{Around}
-use Rattle.roundtrip.proofs.Laid.{Laid, cyclic, cyclic_entry}
 use Rattle.roundtrip.proofs.Loaded.{loaded_sound}
 use Rattle.roundtrip.proofs.RoundTrip.{lines_back}
 use Rattle.counting.proofs.Joined.{join_agree}
-use Rattle.acceptance.specs.Loading.{Describes, After, ItsWires}
-use Rattle.acceptance.specs.Loading.After.{on_line, around_again}
+use Rattle.acceptance.specs.Loading.{Describes, ItsWires}
 use Rattle.acceptance.specs.Laws.{turned, turned_text, Begins, LoadAccepts, LoadGives}
-use Rattle.acceptance.proofs.Said.{Said, its_around, end_there}
+use Rattle.acceptance.proofs.Described.{described_laid}
 use Rattle.acceptance.proofs.Turned.{turned_rotates, laid_turned}
 use Rattle.acceptance.proofs.Answered.{result, bars_answered}
 use Rattle.acceptance.proofs.Accepted.{wire_line, ring_line, Front, front_splits, all_lines}
@@ -48,37 +43,8 @@ chosen P n f = (λ v. value v (dec_lt v n), λ v h. meets v h (dec_lt v n))
 
 -- ---- the lines of a sheet that they describe
 
-module _ (n : ℕ) (tails heads : List ℕ) (rings : List (List ℕ)) (s : Sheet) (S : Sound s) (D : Describes n tails heads rings s) (same : length heads ≡ length tails)
+module _ (n : ℕ) (tails heads : List ℕ) (rings : List (List ℕ)) (s : Sheet) (S : Sound s) (D : Describes n tails heads rings s)
     (its : (v : ℕ) → v < n → ItsWires tails heads v (get_or rings v [])) (some : (v : ℕ) → v < n → 0 < length (get_or rings v [])) where
-  said : Said s s.edges tails heads
-  said = record {
-    tail_count = sym D.edges;
-    head_count = same ∙ sym D.edges;
-    its_tails = λ k h. D.its_tails k (omega (arith, D.edges));
-    its_heads = λ k h. D.its_heads k (omega (arith, D.edges));
-  }
-
-  around : (v : ℕ) → v < n → Around s v (get_or rings v [])
-  around v h = its_around s tails heads said (its v h)
-
-  laid : (v : ℕ) → v < n → Laid s v s.nexts (get_or rings v [])
-  laid v h = record { around = around v h; follows = follows' }
-    where
-      ws : List ℕ
-      ws = get_or rings v []
-
-      links : (i j : ℕ) → i < length ws → j < length ws → After ws (get_or ws i 0) (get_or ws j 0) → get_or s.nexts (dart_at s (get_or ws i 0) v) 0 ≡ dart_at s (get_or ws j 0) v
-      links i j l m a = D.its_nexts v (get_or ws i 0) (get_or ws j 0) _ _ h a (there i l) (there j m)
-        where
-          there : (i : ℕ) → i < length ws → End tails heads (get_or ws i 0) v (dart_at s (get_or ws i 0) v)
-          there i l = end_there s tails heads said S.joins ((around v h).inside i l) ((around v h).touching i l)
-
-      follows' : (i : ℕ) → i < length ws → get_or s.nexts (dart_at s (get_or ws i 0) v) 0 ≡ dart_at s (cyclic ws (suc i)) v
-      follows' i l = by_cases (dec_lt (suc i) (length ws))
-          (λ m. links i (suc i) l m (on_line i m refl refl) ∙ ap (λ w. dart_at s w v) (sym (cyclic_entry ws (suc i) m)))
-          (λ m. let q : length ws ≡ suc i = omega arith in
-          links i 0 l (omega arith) (around_again i (sym q) refl refl) ∙ ap (λ w. dart_at s w v) (sym (get_or_at ws (get_or ws 0 0) [] 0 (suc i) q)))
-
   lines_turned : (turn : ℕ → ℕ) → ((v : ℕ) → v < n → get_or rings v [] ≡ turned (turn v) (rotation s v)) → (m : ℕ) → length tails ≡ m
       → line bars_key (n ∷ []) ++ line wires_key (m ∷ []) ++ join_below (wire_line tails heads) m ++ join_below (ring_line rings) n ≡ turned_text s turn
   unfolding turned_text wire_line ring_line
@@ -92,7 +58,7 @@ module _ (n : ℕ) (tails heads : List ℕ) (rings : List (List ℕ)) (s : Sheet
       ) refl
 
   turns : (turn : ℕ → ℕ) × ((v : ℕ) → v < n → get_or rings v [] ≡ turned (turn v) (rotation s v))
-  turns = chosen (λ v t. get_or rings v [] ≡ turned t (rotation s v)) n (λ v h. laid_turned s S v (omega (arith, D.vertices)) (get_or rings v []) (some v h) (laid v h))
+  turns = chosen (λ v t. get_or rings v [] ≡ turned t (rotation s v)) n (λ v h. laid_turned s S v (omega (arith, D.vertices)) (get_or rings v []) (some v h) (described_laid D S.joins v h (its v h)))
 
   described_begins : (text : List ℕ) (m at : ℕ) → length tails ≡ m
       → Front text (line bars_key (n ∷ []) ++ line wires_key (m ∷ []) ++ join_below (wire_line tails heads) m ++ join_below (ring_line rings) n) at → Begins text
@@ -107,28 +73,28 @@ module _ (n : ℕ) (tails heads : List ℕ) (rings : List (List ℕ)) (s : Sheet
     whole = front_splits text F.bytes F.holds;
   }
 
-lines_begin : (text : List ℕ) (l : Loaded) → load_lines text ≡ Ok l → Begins text
+lines_begin : (text : List ℕ) (l : Loaded) → load_lines Directed text ≡ Ok l → Begins text
 unfolding result returned answer_number
 lines_begin text l e =
-    let all = all_lines text l.sheet (result l.sheet (load_lines text)) (ap answer_number e) (bars_answered text l.sheet) in
+    let all = all_lines text l.sheet (result l.sheet (load_lines Directed text)) (ap answer_number e) (bars_answered Directed text l.sheet) in
     let w = all.wires_each in
     let a = w.around_each in
-    let (z, S) = loaded_sound text l (lines_accepted text e) in
-    let is : Sound (returned l.sheet (load_lines text)).sheet = rw e S in
-    described_begins all.n w.tails w.heads a.rings (returned l.sheet (load_lines text)).sheet is a.described w.same
+    let (z, S) = loaded_sound Directed text l (lines_accepted Directed text e) in
+    let is : Sound (returned l.sheet (load_lines Directed text)).sheet = rw e S in
+    described_begins all.n w.tails w.heads a.rings (returned l.sheet (load_lines Directed text)).sheet is a.described
     (λ v h. a.each.its v (omega (arith, a.full))) (λ v h. a.each.some v (omega (arith, a.full))) text all.m a.taken w.count a.lines
 
 accepted_begins : (text : List ℕ) → is_ok (load text) ≡ true → (length text ≡ 0) ⊎ Begins text
-unfolding load
+unfolding load_from
 accepted_begins [] t = inl (omega arith)
-accepted_begins (b ∷ text) t = inr (go (load_lines (b ∷ text)) refl t)
+accepted_begins (b ∷ text) t = inr (go (load_lines Directed (b ∷ text)) refl t)
   where
-    go : (p : Parsed) → load_lines (b ∷ text) ≡ p → is_ok p ≡ true → Begins (b ∷ text)
+    go : (p : Parsed) → load_lines Directed (b ∷ text) ≡ p → is_ok p ≡ true → Begins (b ∷ text)
     go (Ok l) e t = lines_begin (b ∷ text) l e
     go (Err r) e t = absurd (false≢true t)
 
 begins_accepted : (text : List ℕ) → (length text ≡ 0) ⊎ Begins text → is_ok (load text) ≡ true
-unfolding load
+unfolding load_from
 begins_accepted [] (inl e) = refl
 begins_accepted (b ∷ text) (inl e) = absurd (omega arith)
 begins_accepted text (inr B) = ap is_ok (ap load B.whole ∙ load_gives B.sheet B.sized B.sound B.turn B.lines B.mixed B.rest)

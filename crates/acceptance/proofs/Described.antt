@@ -1,15 +1,50 @@
--- The lines describe one sheet. Assumes nothing.
-use Rattle.std.proofs.Common.{◌≡◌, refl, sym, ◌∙◌, Bool, true, false, List, [], ℕ, suc, ◌<◌, arith, get_or, length}
+-- What the lines say of a sheet that they describe, and that they describe one. Assumes nothing.
+use Rattle.std.proofs.Common.{◌≡◌, refl, sym, ◌∙◌, ap, Bool, true, false, List, [], ℕ, suc, ◌<◌, arith, get_or, length}
 use Rattle.std.proofs.Math.Logic.{by_cases}
 use Rattle.std.proofs.Math.Decide.{dec_lt}
+use Rattle.std.proofs.Math.Seq.{get_or_at}
 use Rattle.clauses.specs.Darts.{End}
 use Rattle.clauses.specs.declared.Sheet.{Sheet}
-use Rattle.sheet.specs.Darts.{next}
+use Rattle.sheet.specs.Darts.{next, dart_at}
+use Rattle.sheet.specs.Sound.{Joins}
 use Rattle.soundness.proofs.Darts.{dart, by_dart, same_parts}
-use Rattle.acceptance.specs.Loading.{ItsWires, Describes}
+use Rattle.roundtrip.proofs.Around.{Around}
+use Rattle.roundtrip.proofs.Laid.{Laid, cyclic, cyclic_entry}
+use Rattle.acceptance.specs.Loading.{ItsWires, After, Describes}
+use Rattle.acceptance.proofs.Said.{Said, its_around, end_there}
 use Rattle.clauses.specs.Darts.End.{at_tail, at_head}
 use Rattle.acceptance.specs.Loading.After.{on_line, around_again}
 use Rattle.roundtrip.proofs.Entries.{filled_all}
+
+module _ {n : ℕ} {tails heads : List ℕ} {rings : List (List ℕ)} {s : Sheet} (D : Describes n tails heads rings s) where
+  described_said : Said s s.edges tails heads
+  described_said = record {
+    tail_count = sym D.edges;
+    its_tails = λ k h. D.its_tails k (omega (arith, D.edges));
+    its_heads = λ k h. D.its_heads k (omega (arith, D.edges));
+  }
+
+  -- the ends at a bar follow each other as its line lists their wires
+  pub described_laid : ((k : ℕ) → k < s.edges → Joins s k) → (v : ℕ) → v < n → ItsWires tails heads v (get_or rings v []) → Laid s v s.nexts (get_or rings v [])
+  described_laid joins v h its = record { around = around; follows = follows' }
+    where
+      ws : List ℕ
+      ws = get_or rings v []
+
+      around : Around s v ws
+      around = its_around s tails heads described_said its
+
+      there : (i : ℕ) → i < length ws → End tails heads (get_or ws i 0) v (dart_at s (get_or ws i 0) v)
+      there i l = end_there s tails heads described_said joins (around.inside i l) (around.touching i l)
+
+      links : (i j : ℕ) → i < length ws → j < length ws → After ws (get_or ws i 0) (get_or ws j 0) → get_or s.nexts (dart_at s (get_or ws i 0) v) 0 ≡ dart_at s (get_or ws j 0) v
+      links i j l m a = D.its_nexts v (get_or ws i 0) (get_or ws j 0) _ _ h a (there i l) (there j m)
+
+      follows' : (i : ℕ) → i < length ws → get_or s.nexts (dart_at s (get_or ws i 0) v) 0 ≡ dart_at s (cyclic ws (suc i)) v
+      follows' i l = by_cases (dec_lt (suc i) (length ws))
+          (λ m. links i (suc i) l m (on_line i m refl refl) ∙ ap (λ w. dart_at s w v) (sym (cyclic_entry ws (suc i) m)))
+          (λ m. let q : length ws ≡ suc i = omega arith in
+          links i 0 l (omega arith) (around_again i (sym q) refl refl) ∙ ap (λ w. dart_at s w v) (sym (get_or_at ws (get_or ws 0 0) [] 0 (suc i) q)))
 
 module _ {n : ℕ} {tails heads : List ℕ} {rings : List (List ℕ)} (tails_in : (k : ℕ) → k < length tails → get_or tails k 0 < n) (heads_in : (k : ℕ) → k < length tails → get_or heads k 0 < n)
     (its : (v : ℕ) → v < n → ItsWires tails heads v (get_or rings v [])) where

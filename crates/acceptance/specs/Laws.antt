@@ -7,17 +7,26 @@ use Rattle.sheet.specs.Darts.{Sized}
 use Rattle.sheet.specs.Sound.{Sound}
 use Rattle.writesheet.specs.Rings.{rotation}
 use Rattle.writesheet.specs.Write.{sheet_lines}
-use Rattle.load.specs.Load.{load, returned}
+use Rattle.orientation.specs.Links.{Choice}
+use Rattle.load.specs.declared.Form.{Form}
+use Rattle.load.specs.declared.Form.TheVariants.{Directed, Undirected}
+use Rattle.load.specs.Load.{load_from, load, load_links, returned}
 use Rattle.acceptance.specs.Loading.{LoadAnswered}
 
--- Load answers as laid down.
+-- Both loads answer as laid down.
 abbrev pub LoadAnsweredLaw : Type 0
-LoadAnsweredLaw = (text : List ℕ) (present : Sheet) → LoadAnswered text present (answer_number (load text)) (returned present (load text)).sheet (returned present (load text)).taken
+LoadAnsweredLaw = (form : Form) (text : List ℕ) (present : Sheet)
+    → LoadAnswered form text present (answer_number (load_from form text)) (returned present (load_from form text)).sheet (returned present (load_from form text)).taken
 
--- What is laid down leaves nothing free: no other answer is as laid down.
+-- What is laid down for load leaves nothing free: no other answer is as laid down.
 abbrev pub AnsweredOnce : Type 0
-AnsweredOnce = (text : List ℕ) (present : Sheet) (number : ℕ) (sheet : Sheet) (taken : ℕ) → LoadAnswered text present number sheet taken
+AnsweredOnce = (text : List ℕ) (present : Sheet) (number : ℕ) (sheet : Sheet) (taken : ℕ) → LoadAnswered Directed text present number sheet taken
     → (number ≡ answer_number (load text)) × (sheet ≡ (returned present (load text)).sheet) × (taken ≡ (returned present (load text)).taken)
+
+-- Every answer that is as laid down for the load of links has the number that ours has, takes as many bytes, and its sheet has the same links.
+abbrev pub LinksAnsweredOnce : Type 0
+LinksAnsweredOnce = (text : List ℕ) (present : Sheet) (number : ℕ) (sheet : Sheet) (taken : ℕ) → LoadAnswered Undirected text present number sheet taken
+    → (number ≡ answer_number (load_links text)) × (taken ≡ (returned present (load_links text)).taken) × Choice (returned present (load_links text)).sheet sheet
 
 -- a list that begins t places later, and goes on from its front
 unfoldable pub turned : ℕ → List ℕ → List ℕ

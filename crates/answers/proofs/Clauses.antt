@@ -29,3 +29,15 @@ first_once (c ∷ cs) a b (inl (h, p)) (inl (k, q)) = p ∙ sym q
 first_once (c ∷ cs) a b (inl (h, p)) (inr (n, q)) = absurd (n h)
 first_once (c ∷ cs) a b (inr (n, p)) (inl (k, q)) = absurd (n k)
 first_once (c ∷ cs) a b (inr (n, p)) (inr (m, q)) = first_once cs a b p q
+
+-- the same numbers, on statements that hold alike
+pub data Matched : List Clause → List Clause → Type 1 where
+  no_more : Matched [] []
+  before : {n : ℕ} {p q : Type 0} {cs ds : List Clause} → p ↔ q → Matched cs ds → Matched (n when p ∷ cs) (n when q ∷ ds)
+
+-- have the same first number
+pub first_matched : {cs ds : List Clause} → Matched cs ds → (a : ℕ) → First cs a → First ds a
+unfolding First
+first_matched no_more a f = f
+first_matched (before e m) a (inl (h, q)) = inl (e.0 h, q)
+first_matched (before e m) a (inr (n, f)) = inr ((λ h. n (e.1 h)), first_matched m a f)

@@ -1,7 +1,7 @@
--- What a call answers, and the numbers of document 01: 0 for acceptance, else the refusal number.
+-- What a call answers, and the numbers of documents 01 and 02: 0 for acceptance, else the refusal number.
 use Rattle.std.specs.Prelude.{ℕ, Result, Ok, Err}
 use Rattle.answers.specs.declared.Refusal.{Refusal}
-use Rattle.answers.specs.declared.Refusal.TheVariants.{BadLayout, CountOutOfLimits, BadEdge, BadRotation, BadRoot, Cyclic, BadPoles, NotPlanar, NotSound, NotInSheet, Full, RootEdge, CornersApart, ClosesCircle, EdgeNeeded, VertexNeeded, BufferTooShort, InputTooLong}
+use Rattle.answers.specs.declared.Refusal.TheVariants.{BadLayout, CountOutOfLimits, BadEdge, BadRotation, BadRoot, Cyclic, BadPoles, NotPlanar, NotSound, NotInSheet, Full, RootEdge, CornersApart, ClosesCircle, EdgeNeeded, VertexNeeded, BufferTooShort, InputTooLong, NotOrientable}
 
 unfoldable pub refusal_number : Refusal → ℕ
 -- text or line not of the layout
@@ -40,6 +40,8 @@ refusal_number VertexNeeded = 16
 refusal_number BufferTooShort = 17
 -- more than 16,384 bytes
 refusal_number InputTooLong = 18
+-- no choice of directions makes the rules on circles and on bars 0 and 1 hold
+refusal_number NotOrientable = 19
 
 -- Acceptance, or a refusal.
 abbrev pub Answer : Type 0

@@ -4,7 +4,7 @@
 ghost use Rattle.std.specs.Prelude.{◌≡◌};
 ghost use Rattle.answers.specs.Answers.{refusal_number, answer_number};
 
-// What a call refuses, and its number: those of document 01, as in specs/Answers.antt. A call answers with a Result: its value, or its refusal.
+// What a call refuses, and its number: those of documents 01 and 02, as in specs/Answers.antt. A call answers with a Result: its value, or its refusal.
 #[derive(Clone, Copy, Debug, PartialEq, Eq)]
 pub enum Refusal {
     BadLayout = 1,
@@ -25,6 +25,7 @@ pub enum Refusal {
     VertexNeeded = 16,
     BufferTooShort = 17,
     InputTooLong = 18,
+    NotOrientable = 19,
 }
 
 impl Refusal {

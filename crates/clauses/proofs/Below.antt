@@ -1,12 +1,11 @@
 -- Tests of a table from an entry on and of the ends of the edges, as tests of lists; and tables over the darts, entry by entry. Assumes nothing.
-use Rattle.std.proofs.Common.{ℕ, suc, ◌+◌, ◌-◌, ◌<◌, ◌≡◌, refl, sym, ◌∙◌, List, add-one, arith, get_or, set, length, replicate, zero, [], ◌∷◌, ◌≤◌, take, drop, zip, take_all, length-drop, eqb, ltb, ◌&&◌, ◌||◌, not, ap, le-ltb, lt-ltb}
-use Rattle.std.proofs.Math.ListN.{get_or-append}
-use Rattle.std.proofs.Math.Seq.{set_at, append_snoc}
+use Rattle.std.proofs.Common.{ℕ, suc, ◌+◌, ◌-◌, ◌<◌, ◌≡◌, refl, sym, ◌∙◌, List, arith, get_or, set, length, replicate, zero, [], ◌∷◌, ◌≤◌, take, drop, zip, take_all, length-drop, eqb, ltb, ◌&&◌, ◌||◌, not, ap, le-ltb, lt-ltb}
 use Rattle.std.proofs.Math.Logic.{by_cases}
 use Rattle.std.proofs.Math.Decide.{dec_lt}
 use Rattle.std.specs.List.{list_all}
-use Rattle.counting.specs.Below.{all_below, tabulate}
-use Rattle.counting.proofs.Below.{all_front, all_agree, list_all_below, length_tabulate, get_d_tabulate}
+use Rattle.counting.specs.Below.{all_below, tabulate, table}
+use Rattle.counting.proofs.Below.{all_front, all_agree, list_all_below}
+use Rattle.counting.proofs.Tables.{table_at, table_more}
 use Rattle.clauses.specs.Inner.{zero_at, joins_at, dart_table}
 
 below_next : (k n : ℕ) → ltb (suc k) (suc n) ≡ ltb k n
@@ -40,11 +39,9 @@ module _ (f : ℕ → ℕ) where
   dart_none = refl
 
   pub dart_more : (d : ℕ) → d < 512 → set (dart_table f d) d (f d) ≡ dart_table f (d + 1)
-  unfolding dart_table tabulate
-  dart_more d h = let z : 512 - d ≡ suc (512 - (d + 1)) = omega arith in
-      rw z (set_at (tabulate f d) 0 (replicate (512 - (d + 1)) 0) (f d) d (length_tabulate f d) ∙ sym (append_snoc (tabulate f d) (f d) (replicate (512 - (d + 1)) 0))
-      ∙ rw (add-one d) refl)
+  unfolding dart_table table
+  dart_more d h = table_more f 512 0 d h (dart_table f d) refl (f d) refl
 
   pub dart_at_law : (n d : ℕ) → d < n → get_or (dart_table f n) d 0 ≡ f d
-  unfolding dart_table
-  dart_at_law n d h = get_or-append (tabulate f n) (replicate (512 - n) 0) 0 d (omega (arith, length_tabulate f n)) ∙ get_d_tabulate f 0 n d h
+  unfolding dart_table table
+  dart_at_law n d h = table_at f 512 0 0 n d h

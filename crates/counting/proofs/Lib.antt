@@ -7,5 +7,6 @@ pub mod Lowest
 pub mod Paths
 pub mod Stores
 pub mod Below
+pub mod Tables
 pub mod Joined
 pub mod Choice

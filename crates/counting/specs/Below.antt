@@ -1,5 +1,5 @@
 -- Tests and lists over the numbers below n, in rising order.
-use Rattle.std.specs.Prelude.{Bool, true, false, cond, ◌&&◌, ◌||◌, List, [], ◌∷◌, ◌++◌, ℕ, zero, suc, eqb}
+use Rattle.std.specs.Prelude.{Bool, true, false, cond, ◌&&◌, ◌||◌, List, [], ◌∷◌, ◌++◌, ℕ, zero, suc, ◌-◌, eqb, replicate}
 
 -- all numbers below n pass
 unfoldable pub all_below : (ℕ → Bool) → ℕ → Bool
@@ -25,6 +25,10 @@ list_below p (suc n) = list_below p n ++ cond (p n) (n ∷ []) []
 unfoldable pub tabulate {ℓ} : {A : Type ℓ} → (ℕ → A) → ℕ → List A
 tabulate f zero = []
 tabulate f (suc n) = tabulate f n ++ f n ∷ []
+
+-- an array of `size` entries: f 0 up to f (n - 1), and z past them
+unfoldable pub table : {A : Type 0} → (ℕ → A) → ℕ → ℕ → A → List A
+table f n size z = tabulate f n ++ replicate (size - n) z
 
 unfoldable pub join_below : (ℕ → List ℕ) → ℕ → List ℕ
 join_below f zero = []

@@ -8,7 +8,8 @@ use Rattle.clauses.specs.declared.Sheet.{Sheet}
 use Rattle.sheet.specs.Fresh.{fresh_sheet}
 use Rattle.soundness.proofs.Law.{sound_law}
 use Rattle.soundness.proofs.Fresh.{fresh_law, fresh_sized}
-use Rattle.load.specs.Load.{Parsed, load, returned}
+use Rattle.load.specs.declared.Form.{Form}
+use Rattle.load.specs.Load.{Parsed, load_from, returned}
 use Rattle.roundtrip.proofs.Loaded.{loaded_sound}
 use Rattle.edit.specs.Changes.{put_in, run_edge, take_out_edge, take_out_vertex}
 use Rattle.edit.specs.Calls.{put_in_answer, run_answer, take_out_edge_answer, take_out_vertex_answer, sheet_after}
@@ -43,18 +44,18 @@ edit_left s w refusals (Err r) made number good =
     (record { number = number; refused = λ _. refl; accepted = λ e. absurd (refusal_nonzero r e); sound = λ e. absurd (refusal_nonzero r e); taken = refl }, w)
 
 -- load leaves a sound sheet: the present one, or the one that it read
-load_whole : (text : List ℕ) (present : Sheet) → Whole present → Whole (returned present (load text)).sheet
+load_whole : (form : Form) (text : List ℕ) (present : Sheet) → Whole present → Whole (returned present (load_from form text)).sheet
 unfolding returned
-load_whole text present w = go (load text) refl
+load_whole form text present w = go (load_from form text) refl
   where
-    go : (p : Parsed) → load text ≡ p → Whole (returned present p).sheet
-    go (Ok l) e = let (z, S) = loaded_sound text l e in (S, z)
+    go : (p : Parsed) → load_from form text ≡ p → Whole (returned present p).sheet
+    go (Ok l) e = let (z, S) = loaded_sound form text l e in (S, z)
     go (Err r) e = w
 
 module _ (s : Sheet) (w : Whole s) where
   call_left : (c : Call) → Left (Answered s c (outcome s c)) (outcome s c)
   unfolding outcome Answered
-  call_left (LoadText text) = let l = load_whole text s w in ((load_answered text s, λ _. l.0), l)
+  call_left (LoadText form text) = let l = load_whole form text s w in ((load_answered form text s, λ _. l.0), l)
   call_left (PutIn k) = edit_left s w _ (put_in_answer s k) (λ _. put_in s k) (put_in_number s w.1 k) (put_in_whole s k w.1)
   call_left (RunEdge a p b q) = edit_left s w _ (run_answer s a p b q) (λ _. run_edge s a p b q) (run_number s w.1 a p b q) (run_whole s a p b q w.1)
   call_left (TakeOutEdge k) =

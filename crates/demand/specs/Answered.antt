@@ -93,9 +93,9 @@ pub record EditAnswered (refusals : List Clause) (s made : Sheet) (o : Outcome) 
   -- only load takes bytes
   pub taken : o.taken ≡ 0
 
--- the call c on the sheet s answers o; load, a blank one too, as `LoadAnswered` lays it down
+-- the call c on the sheet s answers o; load, a blank one too and one of links, as `LoadAnswered` lays it down
 unfoldable pub Answered : Sheet → Call → Outcome → Type 0
-Answered s (LoadText text) o = LoadAnswered text s o.number o.sheet o.taken × (o.number ≡ 0 → Sound o.sheet)
+Answered s (LoadText form text) o = LoadAnswered form text s o.number o.sheet o.taken × (o.number ≡ 0 → Sound o.sheet)
 Answered s (PutIn k) o = EditAnswered (put_in_refusals s k) s (put_in s k) o
 Answered s (RunEdge a p b q) o = EditAnswered (run_refusals s a p b q) s (run_edge s a p b q) o
 Answered s (TakeOutEdge k) o = EditAnswered (take_out_edge_refusals s k) s (take_out_edge s k) o

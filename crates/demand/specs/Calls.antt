@@ -1,15 +1,16 @@
--- The five calls that change a sheet, and a list of them.
+-- The five calls that change a sheet, load in either form, and a list of them.
 use Rattle.std.specs.Prelude.{ℕ, List, [], ◌∷◌, Result}
 use Rattle.clauses.specs.declared.Sheet.{Sheet}
 use Rattle.answers.specs.declared.Refusal.{Refusal}
 use Rattle.answers.specs.Answers.{answer_number}
 use Rattle.sheet.specs.Fresh.{fresh_sheet}
-use Rattle.load.specs.Load.{load, returned}
+use Rattle.load.specs.declared.Form.{Form}
+use Rattle.load.specs.Load.{load_from, returned}
 use Rattle.edit.specs.Calls.{put_in_call, run_call, take_out_edge_call, take_out_vertex_call, sheet_after}
 
 -- each call comes with any text or numbers
 pub data Call : Type 0 where
-  LoadText : List ℕ → Call
+  LoadText : Form → List ℕ → Call
   PutIn : ℕ → Call
   RunEdge : ℕ → ℕ → ℕ → ℕ → Call
   TakeOutEdge : ℕ → Call
@@ -26,7 +27,7 @@ abbrev pub of_edit : Sheet → Result Sheet Refusal → Outcome
 of_edit s e = record { number = answer_number e; sheet = sheet_after s e; taken = 0 }
 
 unfoldable pub outcome : Sheet → Call → Outcome
-outcome s (LoadText text) = let l = load text in record { number = answer_number l; sheet = (returned s l).sheet; taken = (returned s l).taken }
+outcome s (LoadText form text) = let l = load_from form text in record { number = answer_number l; sheet = (returned s l).sheet; taken = (returned s l).taken }
 outcome s (PutIn k) = of_edit s (put_in_call s k)
 outcome s (RunEdge a p b q) = of_edit s (run_call s a p b q)
 outcome s (TakeOutEdge k) = of_edit s (take_out_edge_call s k)

@@ -10,8 +10,9 @@ use Rattle.sheet.specs.Sound.{Sound}
 use Rattle.sheet.specs.Check.{face_table, face, face_count, face_from, face_to, edge_table, column_levels, column}
 use Rattle.soundness.proofs.Columns.{table_at, ends_root, ends_other, columns_within, column_law}
 use Rattle.drawing.specs.Draw.{edge_column, right_column}
-use Rattle.draw.specs.Inner.{table, leading_face, leading_faces, column_beside, AtLeast}
-use Rattle.draw.proofs.Filling.{table_agree}
+use Rattle.counting.specs.Below.{table}
+use Rattle.draw.specs.Inner.{leading_face, leading_faces, column_beside, AtLeast}
+use Rattle.counting.proofs.Tables.{table_agree}
 use Rattle.draw.proofs.Ends.{end_column}
 
 -- ---- the faces between which each edge leads

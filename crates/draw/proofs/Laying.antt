@@ -9,7 +9,8 @@ use Rattle.sheet.specs.Sound.{Sound}
 use Rattle.sheet.specs.Check.{row_levels, face_from, face_to, edge_table, column_levels}
 use Rattle.drawing.specs.declared.Drawing.{Drawing}
 use Rattle.drawing.specs.Draw.{edge_column, drawing_of}
-use Rattle.draw.specs.Inner.{table, leading_faces, column_beside, AtLeast, drawing_from}
+use Rattle.counting.specs.Below.{table}
+use Rattle.draw.specs.Inner.{leading_faces, column_beside, AtLeast, drawing_from}
 use Rattle.draw.proofs.Columns.{some, from_table, to_table, last_is, columns_are, ends_are, right_of_first, from_in, to_in}
 use Rattle.draw.proofs.Outcome.{Found}
 use Rattle.draw.proofs.Ends.{end_column}

@@ -8,8 +8,9 @@ use Rattle.sheet.specs.Sound.{Sound}
 use Rattle.sheet.specs.Check.{row_levels, row}
 use Rattle.soundness.proofs.Rows.{row_law}
 use Rattle.drawing.specs.Draw.{edge_column, first_column, last_column, vertex_segment, edge_segment, no_vertex_segment, no_edge_segment, drawing_of}
-use Rattle.draw.specs.Inner.{table, best_below, edge_from, vertex_from, segment_from, drawing_from}
-use Rattle.draw.proofs.Filling.{table_at, table_agree}
+use Rattle.counting.specs.Below.{table}
+use Rattle.draw.specs.Inner.{best_below, edge_from, vertex_from, segment_from, drawing_from}
+use Rattle.counting.proofs.Tables.{table_at, table_agree}
 use Rattle.draw.proofs.Best.{min_better, max_better, found_best}
 use Rattle.draw.proofs.Ends.{end_column, first_bound, first_found, first_poles, last_bound, last_found, last_poles}
 use Rattle.draw.proofs.Columns.{some, column_small}

@@ -2,8 +2,9 @@
 use Rattle.std.proofs.Common.{ℕ, ◌+◌, ◌<◌, min, max, ◌≡◌, refl, sym, ap, ◌∙◌, ◌≢◌, Bool, List, arith, eqb, get_or, set, eq-eqb, ne_eqb}
 use Rattle.drawing.specs.declared.VertexSegment.{VertexSegment}
 use Rattle.drawing.specs.Draw.{no_vertex_segment}
-use Rattle.draw.specs.Inner.{table, best_below, unreached_from, vertex_from, segment_from, widened_by}
-use Rattle.draw.proofs.Filling.{table_at, table_put}
+use Rattle.counting.specs.Below.{table}
+use Rattle.draw.specs.Inner.{best_below, unreached_from, vertex_from, segment_from, widened_by}
+use Rattle.counting.proofs.Tables.{table_at, table_put}
 use Rattle.draw.proofs.Best.{more_passes, more_fails}
 
 module _ (tails rows columns ends : List ℕ) where

@@ -1,15 +1,11 @@
 -- What the functions behind draw compute, over the lists that they read.
-use Rattle.std.specs.Prelude.{ℕ, zero, suc, ◌+◌, ◌-◌, ◌*◌, ◌≤◌, ◌<◌, min, max, ◌≢◌, Bool, cond, List, ◌++◌, eqb, get_or, replicate}
-use Rattle.counting.specs.Below.{tabulate}
+use Rattle.std.specs.Prelude.{ℕ, zero, suc, ◌+◌, ◌-◌, ◌*◌, ◌≤◌, ◌<◌, min, max, ◌≢◌, Bool, cond, List, eqb, get_or}
+use Rattle.counting.specs.Below.{table}
 use Rattle.clauses.specs.declared.Sheet.{Sheet}
 use Rattle.drawing.specs.declared.VertexSegment.{VertexSegment}
 use Rattle.drawing.specs.declared.EdgeSegment.{EdgeSegment}
 use Rattle.drawing.specs.declared.Drawing.{Drawing}
 use Rattle.drawing.specs.Draw.{no_vertex_segment, no_edge_segment}
-
--- an array of `size` entries: f 0 up to f (n - 1), and z past them
-unfoldable pub table : {A : Type 0} → (ℕ → A) → ℕ → ℕ → A → List A
-table f n size z = tabulate f n ++ replicate (size - n) z
 
 -- the face from which edge k leads, where `side` is 0, or to which, where it is 1: an edge leads from its left face to its right, edge 0 from its right
 -- face to its left

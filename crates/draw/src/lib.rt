@@ -5,7 +5,8 @@ ghost use Rattle.std.specs.Prelude.{◌≡◌, ℕ, ◌≤◌, ◌<◌, get_or};
 ghost use Rattle.digraph.specs.Inner.{Ends};
 ghost use Rattle.sheet.specs.Sound.{Sound};
 ghost use Rattle.drawing.specs.Draw.{no_vertex_segment, no_edge_segment, draw_call, returned};
-ghost use Rattle.draw.specs.Inner.{table, leading_faces, column_beside, AtLeast, edge_from, unreached_from, segment_from, widened_by, drawing_from};
+ghost use Rattle.counting.specs.Below.{table};
+ghost use Rattle.draw.specs.Inner.{leading_faces, column_beside, AtLeast, edge_from, unreached_from, segment_from, widened_by, drawing_from};
 
 use answers::Refusal;
 use digraph::Digraph;

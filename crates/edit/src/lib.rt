@@ -42,7 +42,7 @@ impl Edit {
 }
 
 // How many bytes the line at the front of a text has, its byte 10 included.
-fn line_length(text: &[u8]) -> usize
+pub fn line_length(text: &[u8]) -> usize
     ensures { result ≡ line_length text.now }
 {
     text.iter()

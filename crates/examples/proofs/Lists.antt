@@ -10,7 +10,7 @@ use Rattle.soundness.proofs.Clauses.{limits_law, joined_law}
 use Rattle.soundness.proofs.Rings.{rings_law, rings_rotation}
 use Rattle.soundness.proofs.Faces.{faces_numbered}
 use Rattle.soundness.proofs.Darts.{same_parts}
-use Rattle.program.specs.Program.{plate_output}
+use Rattle.program.specs.Program.{input_form, plate_output}
 use Rattle.examples.specs.Described.{described}
 use Rattle.examples.specs.Plates.{Remark, Plate, same, same_sheet, as_remarked, all_printed}
 use Rattle.examples.specs.Plates.Remark.{none, fresh, faces}
@@ -51,10 +51,10 @@ remarked_of none s e = tt
 remarked_of fresh s e = sheet_equal s fresh_sheet e
 remarked_of (faces f) s e = let (o, n) = and_parts _ _ e in (face s, subst (Faces s (face s)) (eqb-true (face_count s) f n) (faces_counted s o))
 
-right : (p : Plate) → (same (plate_output p.input) p.output && as_remarked p.sheet (described p.input)) ≡ true → Agrees p
+right : (p : Plate) → (same (plate_output p.input) p.output && as_remarked p.sheet (described (input_form p.input) p.input)) ≡ true → Agrees p
 right p e =
     let (a, b) = and_parts _ _ e in
-    record { printed = same_equal (plate_output p.input) p.output a; remarked = remarked_of p.sheet (described p.input) b }
+    record { printed = same_equal (plate_output p.input) p.output a; remarked = remarked_of p.sheet (described (input_form p.input) p.input) b }
 
 pub each_printed : (ps : List Plate) (z : Plate) → all_printed ps ≡ true → (i : ℕ) → i < length ps → Agrees (get_or ps i z)
 unfolding all_printed

@@ -6,7 +6,7 @@ use Rattle.clauses.specs.declared.Sheet.{Sheet}
 use Rattle.sheet.specs.Fresh.{fresh_sheet}
 use Rattle.sheet.specs.Check.{face_count}
 use Rattle.sheet.specs.Inner.{structured}
-use Rattle.program.specs.Program.{plate_output}
+use Rattle.program.specs.Program.{input_form, plate_output}
 use Rattle.examples.specs.Described.{described}
 
 -- a text with its line ends
@@ -70,6 +70,17 @@ plates =
     ∷ plate "^|" "refused=1|"
     ∷ plate " " "refused=1|"
     ∷ plate "in=1|run=0,1,2,2|" "refused=1|"
+    -- Links, which can be directed in one way: 0 to 2 to 1
+    ∷ plate_of (faces 2) "bars=3|wires=3|link=0,1|link=1,2|link=2,0|around=0,2|around=0,1|around=1,2|" "rows=3|columns=2|bar=0,0,1|bar=2,0,1|bar=1,0,0|wire=1,0,2|wire=0,1,2|wire=0,0,1|"
+    -- They can't where a bar hangs on one link, nor where two parts are joined at one bar: 19; so too where n − m + f isn't 2
+    ∷ plate "bars=3|wires=3|link=0,1|link=0,1|link=0,2|around=0,1,2|around=0,1|around=2|" "refused=19|"
+    ∷ plate "bars=4|wires=5|link=0,1|link=0,1|link=0,2|link=2,3|link=3,0|around=0,1,2,4|around=0,1|around=2,3|around=3,4|" "refused=19|"
+    ∷ plate "bars=3|wires=4|link=0,1|link=0,1|link=0,1|link=2,0|around=0,1,2,3|around=0,1,2|around=3|" "refused=19|"
+    -- Link 0 is `link=0,1`, else 5; P3 of links: 8; a `wire=` line among links, and a `link=` line among wires: 1
+    ∷ plate "bars=2|wires=2|link=1,0|link=0,1|around=0,1|around=0,1|" "refused=5|"
+    ∷ plate "bars=2|wires=3|link=0,1|link=1,0|link=0,1|around=0,1,2|around=0,1,2|" "refused=8|"
+    ∷ plate "bars=2|wires=2|link=0,1|wire=0,1|around=0,1|around=0,1|" "refused=1|"
+    ∷ plate "bars=2|wires=2|wire=0,1|link=0,1|around=0,1|around=0,1|" "refused=1|"
     ∷ []
 
 -- two texts are the same
@@ -92,4 +103,4 @@ as_remarked (faces f) s = structured s && eqb (face_count s) f
 -- the test: `plate` prints what the table says, and the sheet is as it says, of each plate
 unfoldable pub all_printed : List Plate → Bool
 all_printed [] = true
-all_printed (p ∷ ps) = (same (plate_output p.input) p.output && as_remarked p.sheet (described p.input)) && all_printed ps
+all_printed (p ∷ ps) = (same (plate_output p.input) p.output && as_remarked p.sheet (described (input_form p.input) p.input)) && all_printed ps

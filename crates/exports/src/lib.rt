@@ -6,7 +6,7 @@ ghost use Rattle.std.specs.Prelude.{◌≡◌};
 ghost use Rattle.digraph.specs.Relaxed.{levels_of};
 ghost use Rattle.orbits.specs.Tables.{traced};
 ghost use Rattle.sheet.specs.Check.{sound};
-ghost use Rattle.load.specs.Load.{load};
+ghost use Rattle.load.specs.Load.{load, load_links};
 ghost use Rattle.writesheet.specs.Write.{write_sheet, buffer_after_sheet};
 ghost use Rattle.edit.specs.Lines.{read_edit};
 ghost use Rattle.drawing.specs.Write.{write_drawing, buffer_after_drawing};
@@ -21,6 +21,7 @@ use answers::Refusal;
 use digraph::Digraph;
 use drawing::Drawing;
 use edit::Edit;
+use load::Loaded;
 use orbits::Traced;
 use sheet::Sheet;
 
@@ -114,6 +115,26 @@ pub extern "C" fn walnut_is_sound(
     sheet::is_sound(sheet_of(vertices, edges, tails, heads, nexts))
 }
 
+// What a load returns takes the place of the present sheet; its number.
+fn put_loaded(
+    answer: Result<Loaded, Refusal>,
+    vertices: &mut usize,
+    edges: &mut usize,
+    tails: &mut [u16; 256],
+    heads: &mut [u16; 256],
+    nexts: &mut [u16; 512],
+    taken: &mut usize,
+) -> u16
+    ensures { Parts answer (sheet_of vertices.old edges.old tails.old heads.old nexts.old) result vertices.new edges.new tails.new heads.new nexts.new taken.new }
+{
+    let present = sheet_of(*vertices, *edges, tails, heads, nexts);
+    let number = answers::answer_number(&answer);
+    let loaded = load::returned(answer, present);
+    put_parts(loaded.sheet, vertices, edges, tails, heads, nexts);
+    *taken = loaded.taken;
+    number
+}
+
 // Load. The present sheet is lent in parts, and the sheet that load returns takes its place: for a text of no bytes the fresh one, with 0 bytes taken.
 #[unsafe(no_mangle)]
 pub extern "C" fn walnut_load(
@@ -127,13 +148,39 @@ pub extern "C" fn walnut_load(
 ) -> u16
     ensures { Parts (load text.now) (sheet_of vertices.old edges.old tails.old heads.old nexts.old) result vertices.new edges.new tails.new heads.new nexts.new taken.new }
 {
-    let present = sheet_of(*vertices, *edges, tails, heads, nexts);
-    let answer = load::load(text);
-    let number = answers::answer_number(&answer);
-    let loaded = load::returned(answer, present);
-    put_parts(loaded.sheet, vertices, edges, tails, heads, nexts);
-    *taken = loaded.taken;
-    number
+    put_loaded(
+        load::load(text),
+        vertices,
+        edges,
+        tails,
+        heads,
+        nexts,
+        taken,
+    )
+}
+
+// The load of links, as load: it takes `link=` lines in place of `wire=` lines, and chooses the directions.
+#[unsafe(no_mangle)]
+pub extern "C" fn walnut_load_links(
+    text: &[u8],
+    vertices: &mut usize,
+    edges: &mut usize,
+    tails: &mut [u16; 256],
+    heads: &mut [u16; 256],
+    nexts: &mut [u16; 512],
+    taken: &mut usize,
+) -> u16
+    ensures { Parts (load_links text.now) (sheet_of vertices.old edges.old tails.old heads.old nexts.old) result vertices.new edges.new tails.new heads.new nexts.new taken.new }
+{
+    put_loaded(
+        load::load_links(text),
+        vertices,
+        edges,
+        tails,
+        heads,
+        nexts,
+        taken,
+    )
 }
 
 // Write sheet. The C interface has an entry for each of the two writers; they are alike up to the writer's name, and one body that takes it as a closure is no

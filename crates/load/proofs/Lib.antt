@@ -1,4 +1,5 @@
 pub mod Occurrences
 pub mod Ends
 pub mod Walking
+pub mod Directing
 pub mod Turns

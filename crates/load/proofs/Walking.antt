@@ -15,7 +15,7 @@ use Rattle.answers.specs.declared.Refusal.{Refusal}
 use Rattle.answers.specs.declared.Refusal.TheVariants.{BadLayout}
 use Rattle.clauses.specs.declared.Sheet.{Sheet}
 use Rattle.text.specs.Keys.{around_key}
-use Rattle.load.specs.Inner.{Apart, fits_of, edge_of, marks_of, rest_at, is_listed, refusal_of, fit_from, linked_from, linked, Ringed, unringed, ringed_by, end_of, linked_on, ring_from}
+use Rattle.load.specs.Inner.{Joining, fits_of, edge_of, marks_of, rest_at, is_listed, refusal_of, fit_from, linked_from, linked, Ringed, unringed, ringed_by, end_of, linked_on, ring_from}
 
 -- ---- the numbers after one that ends at a place
 
@@ -60,15 +60,15 @@ module _ (text : List ℕ) where
 
 module _ (s : Sheet) (v : ℕ) where
   -- whether it may stand there, by whether its tail and its head stand there
-  pub fits_steps : (seen : List ℕ) (w : ℕ) → Apart s.edges s.tails s.heads
+  pub fits_steps : (seen : List ℕ) (w : ℕ) → Joining s.edges s.tails s.heads
       → fits_of s v seen w ≡ cond (ltb w s.edges) (cond (eqb (get_or seen w 0) (v + 1)) false (not (beq (eqb (get_or s.tails w 0) v) (eqb (get_or s.heads w 0) v)))) false
   unfolding fits_of touches_of
-  fits_steps seen w apart = by_bool (ltb w s.edges)
+  fits_steps seen w joins = by_bool (ltb w s.edges)
       (λ l. by_bool (eqb (get_or seen w 0) (v + 1))
       (λ q. rw (l, q) (and-false (touches_of s.tails s.heads w v)))
       (λ q. by_bool (eqb (get_or s.tails w 0) v)
       (λ a. by_bool (eqb (get_or s.heads w 0) v)
-      (λ b. absurd (apart w (ltb-true w s.edges l) (eqb-true (get_or s.tails w 0) v a ∙ sym (eqb-true (get_or s.heads w 0) v b))))
+      (λ b. absurd ((joins w (ltb-true w s.edges l)).2 (eqb-true (get_or s.tails w 0) v a ∙ sym (eqb-true (get_or s.heads w 0) v b))))
       (λ b. rw (l, q, a, b) refl))
       (λ a. by_bool (eqb (get_or s.heads w 0) v) (λ b. rw (l, q, a, b) refl) (λ b. rw (l, q, a, b) refl))))
       (λ l. rw l refl)

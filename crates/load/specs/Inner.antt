@@ -9,7 +9,8 @@ use Rattle.text.specs.Shapes.{with_one}
 use Rattle.clauses.specs.declared.Sheet.{Sheet}
 use Rattle.answers.specs.declared.Refusal.{Refusal}
 use Rattle.answers.specs.declared.Refusal.TheVariants.{BadLayout, CountOutOfLimits, BadRotation}
-use Rattle.load.specs.Load.{Parsed, judged, ring_lines}
+use Rattle.load.specs.declared.Form.{Form}
+use Rattle.load.specs.Load.{Parsed, directed, judged, ring_lines}
 
 -- what was read, with the place that was reached
 abbrev pub reached : {A B : Type 0} → (A → B) → Result A Refusal → Result B Refusal
@@ -24,17 +25,17 @@ count_of most line =
 
 -- ---- the edge lines
 
--- none of m edges has both ends at one vertex
-abbrev pub Apart : ℕ → List ℕ → List ℕ → Type 0
-Apart m tails heads = (k : ℕ) → k < m → get_or tails k 0 ≢ get_or heads k 0
+-- each of m edges joins two different vertices below 128
+abbrev pub Joining : ℕ → List ℕ → List ℕ → Type 0
+Joining m tails heads = (k : ℕ) → k < m → (get_or tails k 0 < 128) × (get_or heads k 0 < 128) × (get_or tails k 0 ≢ get_or heads k 0)
 
 -- degrees has for each vertex how many of the first k edges have an end there
 abbrev pub Counted : ℕ → List ℕ → List ℕ → List ℕ → Type 0
 Counted k tails heads degrees = (v : ℕ) → v < 128 → get_or degrees v 0 ≡ count (λ i. touches_of tails heads i v) k
 
--- the counts and the edges of the sheet are read: there is room for them, and no edge has both ends at one vertex
+-- the counts and the edges of the sheet are read: there is room for them, and each edge joins two vertices
 abbrev pub EdgesRead : Sheet → Type 0
-EdgesRead s = (s.vertices ≤ 128) × (s.edges ≤ 256) × Apart s.edges s.tails s.heads
+EdgesRead s = (s.vertices ≤ 128) × (s.edges ≤ 256) × Joining s.edges s.tails s.heads
 
 -- the entries from edge m on are as they were
 abbrev pub AsBefore : ℕ → Sheet → Sheet → Type 0
@@ -45,9 +46,9 @@ unfoldable pub one_more : ℕ → List ℕ → List ℕ
 one_more v degrees = set degrees v (get_or degrees v 0 + 1)
 
 -- what load goes on to
-abbrev pub after_edges : List ℕ → Sheet → Result ℕ Refusal → Parsed
-after_edges text s (Ok at) = ring_lines s.vertices text s 0 at
-after_edges text s (Err a) = Err a
+abbrev pub after_edges : Form → List ℕ → Sheet → Result ℕ Refusal → Parsed
+after_edges form text s (Ok at) = ring_lines form (directed form s).vertices text (directed form s) 0 at
+after_edges form text s (Err a) = Err a
 
 -- ---- the ring lines
 
@@ -113,6 +114,6 @@ ring_from degree s v count first last seen nexts unlisted = unringed BadLayout
 ring_from degree s v count first last seen nexts (listed ws next) =
     cond (fit_from s v seen ws && eqb (count + length ws) degree) (ringed next (linked_on s.tails v count first last ws nexts)) (unringed BadRotation)
 
-abbrev pub after_rings : Sheet → Result ℕ Refusal → Parsed
-after_rings s (Ok at) = judged s at
-after_rings s (Err a) = Err a
+abbrev pub after_rings : Form → Sheet → Result ℕ Refusal → Parsed
+after_rings form s (Ok at) = judged form s at
+after_rings form s (Err a) = Err a

@@ -2,6 +2,7 @@
 ghost use Rattle.std.specs.Prelude.{ℕ, ◌≡◌, ◌+◌, ◌≤◌, ◌<◌, IsTrue, IfOk, get_or, length};
 ghost use Rattle.text.specs.Reading.{number_at, line_at, closed};
 ghost use Rattle.text.specs.Keys.{around_key};
+ghost use Rattle.load.specs.declared.Form.{Form};
 ghost use Rattle.load.specs.Load.{with_nexts, ring_lines};
 ghost use Rattle.load.specs.Inner.{reached, EdgesRead, Counted, fits_of, edge_of, marks_of, is_listed, refusal_of, rest_at, end_of, ringed_by, ring_from, after_rings};
 
@@ -132,7 +133,7 @@ pub fn ring_lines(
 ) -> Result<(), Refusal>
     requires { EdgesRead sheet.now × Counted sheet.now.edges sheet.now.tails sheet.now.heads degrees.now }
     ensures text { reader.new.text.now ≡ reader.old.text.now }
-    ensures rest { after_rings (with_nexts sheet.now nexts.new) (reached (λ _. reader.new.at) result) ≡ ring_lines sheet.now.vertices reader.old.text.now (with_nexts sheet.now nexts.old) 0 reader.old.at }
+    ensures rest { (form : Form) → after_rings form (with_nexts sheet.now nexts.new) (reached (λ _. reader.new.at) result) ≡ ring_lines form sheet.now.vertices reader.old.text.now (with_nexts sheet.now nexts.old) 0 reader.old.at }
 {
     // 0 where an edge stood on no line yet, v + 1 where it stood on v's: entries of type Option<u8> were tried, and load of a full sheet took 6 % longer.
     let mut seen = [0u16; 256];

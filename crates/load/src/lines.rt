@@ -4,6 +4,7 @@ ghost use Rattle.text.specs.Reading.{line_at};
 ghost use Rattle.load.specs.Load.{edge_lines};
 ghost use Rattle.load.specs.Inner.{reached, count_of, one_more, EdgesRead, Counted, AsBefore, after_edges};
 
+use crate::Form;
 use answers::Refusal;
 use sheet::Sheet;
 use text::Reader;
@@ -35,23 +36,24 @@ fn count_end(v: u16, degrees: &mut [u16; 128])
     degrees[usize::from(v)] += 1;
 }
 
-// The lines `wire=tail,head` of a sheet whose counts are read. The edges at each vertex are counted as they are read.
+// The lines of the edges of a sheet whose counts are read. The edges at each vertex are counted as they are read.
 #[tactic(auto, using(crate::proofs::Turns::edge_turns), unfolding(crate::specs::Load::with_edge))]
 pub fn edge_lines(
+    form: Form,
     reader: &mut Reader,
     sheet: &mut Sheet,
     degrees: &mut [u16; 128],
 ) -> Result<(), Refusal>
     requires { (sheet.old.vertices ≤ 128) × (sheet.old.edges ≤ 256) × Counted 0 sheet.old.tails sheet.old.heads degrees.old }
     ensures text { reader.new.text.now ≡ reader.old.text.now }
-    ensures rest { after_edges reader.old.text.now sheet.new (reached (λ _. reader.new.at) result) ≡ edge_lines sheet.old.edges reader.old.text.now sheet.old 0 reader.old.at }
+    ensures rest { after_edges form reader.old.text.now sheet.new (reached (λ _. reader.new.at) result) ≡ edge_lines form sheet.old.edges reader.old.text.now sheet.old 0 reader.old.at }
     ensures counts { (sheet.new.vertices ≡ sheet.old.vertices) × (sheet.new.edges ≡ sheet.old.edges) }
     ensures kept { (sheet.new.nexts ≡ sheet.old.nexts) × AsBefore sheet.old.edges sheet.old sheet.new }
     ensures read { IfOk result (λ _. EdgesRead sheet.new × Counted sheet.new.edges sheet.new.tails sheet.new.heads degrees.new) }
 {
     // By place: it stores into two arrays of the sheet.
     for k in 0..sheet.edges {
-        let (a, b) = reader.pair_line(b"wire=").ok_or(Refusal::BadLayout)?;
+        let (a, b) = form.edge_line(reader).ok_or(Refusal::BadLayout)?;
         if !clauses::joins(sheet.vertices, a, b) {
             return Err(Refusal::BadEdge);
         }

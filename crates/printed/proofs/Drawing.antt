@@ -4,13 +4,13 @@ use Rattle.clauses.specs.declared.Sheet.{Sheet}
 use Rattle.sheet.specs.Fresh.{fresh_sheet}
 use Rattle.answers.specs.Refusals.{answering}
 use Rattle.load.specs.declared.Loaded.{Loaded}
-use Rattle.load.specs.Load.{load, returned}
+use Rattle.load.specs.Load.{returned}
 use Rattle.edit.specs.declared.Edit.{Edit}
 use Rattle.edit.specs.declared.Edit.TheVariants.{In, Run, Out, Off, Refused}
 use Rattle.edit.specs.Lines.{edit_of, line_length}
 use Rattle.edit.specs.Calls.{apply, sheet_after}
 use Rattle.drawing.specs.Write.{drawing_text_of}
-use Rattle.program.specs.Program.{edit_output, edits_output, loaded_output, plate_output}
+use Rattle.program.specs.Program.{edit_output, edits_output, load_input, loaded_output, plate_output}
 use Rattle.program.proofs.Edits.{line_shorter, one_line}
 use Rattle.demand.specs.Calls.{outcome, after}
 use Rattle.demand.proofs.Demand.{demand}
@@ -57,8 +57,8 @@ edits_drawn (suc r) s (b ∷ text) =
     ∙ sym (append_assoc (edit_output e) (refusals (sheet_after s e) es) (drawing_text_of (after (sheet_after s e) (calls_for es))))
     ∙ ap (λ (t : Sheet). edit_output e ++ refusals (sheet_after s e) es ++ drawing_text_of t) (sym (call_after s (edit_of all) es))
 
-edits_only : (input : List ℕ) → length input ≤ 16384 → (l : Loaded) → load input ≡ Ok l
-    → let r = returned fresh_sheet (load input) in plate_output input ≡ edits_output (length input) r.sheet (drop r.taken input)
+edits_only : (input : List ℕ) → length input ≤ 16384 → (l : Loaded) → load_input input ≡ Ok l
+    → let r = returned fresh_sheet (load_input input) in plate_output input ≡ edits_output (length input) r.sheet (drop r.taken input)
 unfolding plate_output loaded_output returned
 edits_only input h l e = rw (le-leb (length input) 16384 h, e) refl
 

@@ -2,12 +2,12 @@
 use Rattle.std.specs.Prelude.{ℕ, zero, suc, List, [], ◌∷◌, ◌++◌, length, drop}
 use Rattle.clauses.specs.declared.Sheet.{Sheet}
 use Rattle.sheet.specs.Fresh.{fresh_sheet}
-use Rattle.load.specs.Load.{load, returned}
+use Rattle.load.specs.Load.{returned}
 use Rattle.edit.specs.declared.Edit.{Edit}
 use Rattle.edit.specs.declared.Edit.TheVariants.{In, Run, Out, Off, Refused}
 use Rattle.edit.specs.Lines.{edit_of, line_length}
 use Rattle.edit.specs.Calls.{apply, sheet_after}
-use Rattle.program.specs.Program.{edit_output}
+use Rattle.program.specs.Program.{edit_output, input_form, load_input}
 use Rattle.demand.specs.Calls.{Call}
 use Rattle.demand.specs.Calls.Call.{LoadText, PutIn, RunEdge, TakeOutEdge, TakeOutVertex}
 
@@ -33,8 +33,8 @@ refusals s (e ∷ es) = edit_output (apply s e) ++ refusals (sheet_after s (appl
 
 -- the edits of an input: what follows the sheet
 abbrev pub input_edits : List ℕ → List Edit
-input_edits input = edits_in (length input) (drop (returned fresh_sheet (load input)).taken input)
+input_edits input = edits_in (length input) (drop (returned fresh_sheet (load_input input)).taken input)
 
--- the calls of an input: load, then the edits
+-- the calls of an input: the load of its form, then the edits
 abbrev pub calls_in : List ℕ → List Call
-calls_in input = LoadText input ∷ calls_for (input_edits input)
+calls_in input = LoadText (input_form input) input ∷ calls_for (input_edits input)

@@ -13,7 +13,6 @@ use Rattle.soundness.proofs.Clauses.{limits_law}
 use Rattle.soundness.proofs.Judge.{passed_says}
 use Rattle.soundness.proofs.Law.{sound_law}
 use Rattle.load.specs.declared.Loaded.{Loaded}
-use Rattle.load.specs.Load.{load}
 use Rattle.roundtrip.proofs.Loaded.{loaded_sound}
 use Rattle.edit.specs.declared.Edit.{Edit}
 use Rattle.edit.specs.declared.Edit.TheVariants.{In, Run, Out, Off, Refused}
@@ -28,7 +27,7 @@ use Rattle.preservation.proofs.TakeOutVertex.{take_out_vertex_whole}
 use Rattle.drawing.specs.Draw.{drawing_of}
 use Rattle.drawing.specs.Write.{drawing_text_of}
 use Rattle.writedrawing.proofs.Texts.{drawing_short}
-use Rattle.program.specs.Program.{refused_line, edit_output, edits_output, loaded_output, plate_output, longest_output}
+use Rattle.program.specs.Program.{refused_line, edit_output, edits_output, input_form, load_input, loaded_output, plate_output, longest_output}
 use Rattle.program.specs.Laws.{OutputBound}
 use Rattle.program.proofs.Edits.{one_line, line_some, line_most}
 
@@ -46,8 +45,8 @@ apply_whole s w (Out k) = edited_whole s w (take_out_edge_answer s k) (λ _. tak
 apply_whole s w (Off v) = edited_whole s w (take_out_vertex_answer s v) (λ _. take_out_vertex s v) (take_out_vertex_whole s v w.1)
 apply_whole s w Refused = edited_whole s w (edit_answer Refused) (λ _. s) (λ _. w)
 
-pub load_whole : (input : List ℕ) (l : Loaded) → load input ≡ Ok l → Whole l.sheet
-load_whole input l e = let (z, S) = loaded_sound input l e in (S, z)
+pub load_whole : (input : List ℕ) (l : Loaded) → load_input input ≡ Ok l → Whole l.sheet
+load_whole input l e = let (z, S) = loaded_sound (input_form input) input l e in (S, z)
 
 pub whole_sound : {s : Sheet} → Whole s → sound s ≡ true
 whole_sound {s} w = (sound_law s w.1).1 w.0
@@ -84,9 +83,9 @@ pub output_bound : OutputBound
 unfolding plate_output loaded_output
 output_bound input = by_bool (leb (length input) 16384) fits (λ t. rw t (omega (arith, refused_short InputTooLong)))
   where
-    loaded : (p : Result Loaded Refusal) → load input ≡ p → length input ≤ 16384 → length (loaded_output input p) ≤ longest_output
+    loaded : (p : Result Loaded Refusal) → load_input input ≡ p → length input ≤ 16384 → length (loaded_output input p) ≤ longest_output
     loaded (Ok l) e h = omega (arith, edits_short (length input) l.sheet (drop l.taken input) (load_whole input l e), length-drop l.taken input)
     loaded (Err r) e h = omega (arith, refused_short r)
 
     fits : leb (length input) 16384 ≡ true → length (plate_output input) ≤ longest_output
-    fits t = rw t (loaded (load input) refl (leb-true (length input) 16384 t))
+    fits t = rw t (loaded (load_input input) refl (leb-true (length input) 16384 t))

@@ -7,10 +7,9 @@ use Rattle.answers.specs.declared.Refusal.TheVariants.{BufferTooShort, InputTooL
 use Rattle.answers.specs.declared.Refusal.{Refusal}
 use Rattle.answers.specs.Refusals.{first, answering}
 use Rattle.load.specs.declared.Loaded.{Loaded}
-use Rattle.load.specs.Load.{load}
 use Rattle.writesheet.specs.Write.{buffer_after}
 use Rattle.preservation.specs.Laws.{Whole}
-use Rattle.program.specs.Program.{refused_line, loaded_output, plate_output, longest_output, plate_answer, write_output, buffer_after_output}
+use Rattle.program.specs.Program.{refused_line, load_input, loaded_output, plate_output, longest_output, plate_answer, write_output, buffer_after_output}
 use Rattle.program.proofs.Bound.{load_whole, output_bound}
 use Rattle.program.proofs.Turns.{lines}
 
@@ -20,7 +19,7 @@ module _ (input : List ℕ) where
   too_long h = rw (lt-leb (length input) 16384 h) refl
 
   -- load answered
-  module _ (h : length input ≤ 16384) (p : Result Loaded Refusal) (e : p ≡ load input) where
+  module _ (h : length input ≤ 16384) (p : Result Loaded Refusal) (e : p ≡ load_input input) where
     pub load_refused : (r : Refusal) → p ≡ Err r → plate_output input ≡ refused_line r
     unfolding plate_output loaded_output
     load_refused r q = rw (le-leb (length input) 16384 h, sym e ∙ q) refl

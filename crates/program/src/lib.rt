@@ -5,10 +5,11 @@ ghost use Rattle.std.specs.Prelude.{◌≡◌, ◌+◌, ◌≤◌, length, drop}
 ghost use Rattle.buffer.specs.Sinks.{Puts};
 ghost use Rattle.preservation.specs.Laws.{Whole};
 ghost use Rattle.drawing.specs.Write.{drawing_text_of};
-ghost use Rattle.program.specs.Program.{refused_line, edits_output, plate_output, write_output, buffer_after_output};
+ghost use Rattle.program.specs.Program.{refused_line, edits_output, after_line, input_form, load_input, plate_output, write_output, buffer_after_output};
 
 use answers::Refusal;
 use buffer::Writer;
+use load::{Form, Loaded};
 use sheet::Sheet;
 
 // Puts a line `refused=` and number.
@@ -48,6 +49,35 @@ fn put_edits(to: &mut Writer, input: &[u8], start: usize, s: Sheet)
     put_drawing(to, sheet);
 }
 
+// What follows the first line of a text.
+#[tactic(auto, using(crate::proofs::Edits::line_most))]
+fn after_line(text: &[u8]) -> &[u8]
+    ensures { result.now ≡ after_line text.now }
+{
+    &text[edit::line_length(text)..]
+}
+
+// The form of an input's sheet: of links where its third line begins with `link=`.
+fn input_form(input: &[u8]) -> Form
+    ensures { result ≡ input_form input.now }
+{
+    if after_line(after_line(input)).starts_with(b"link=") {
+        Form::Undirected
+    } else {
+        Form::Directed
+    }
+}
+
+// Reads the sheet of an input, by its form.
+fn load_input(input: &[u8]) -> Result<Loaded, Refusal>
+    ensures { result ≡ load_input input.now }
+{
+    match input_form(input) {
+        Form::Directed => load::load(input),
+        Form::Undirected => load::load_links(input),
+    }
+}
+
 // No input may have more bytes.
 pub const LONGEST_INPUT: usize = 16384;
 
@@ -59,7 +89,7 @@ fn put_output(to: &mut Writer, input: &[u8])
     if LONGEST_INPUT < input.len() {
         return put_refused(to, Refusal::InputTooLong);
     }
-    match load::load(input) {
+    match load_input(input) {
         Ok(loaded) => put_edits(to, input, loaded.taken, loaded.sheet),
         Err(refusal) => put_refused(to, refusal),
     }

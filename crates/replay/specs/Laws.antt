@@ -11,7 +11,7 @@ pub data Below (bound : ℕ) : List ℕ → Type 0 where
 
 -- the numbers of a call fit 64 bits, and its text is bytes
 unfoldable pub Fitting : Call → Type 0
-Fitting (LoadText text) = Below 256 text
+Fitting (LoadText form text) = Below 256 text
 Fitting (PutIn k) = k < 2 ^ 64
 Fitting (RunEdge a p b q) = (a < 2 ^ 64) × (p < 2 ^ 64) × (b < 2 ^ 64) × (q < 2 ^ 64)
 Fitting (TakeOutEdge k) = k < 2 ^ 64
@@ -23,7 +23,7 @@ pub data AllFitting : List Call → Type 0 where
 
 -- the text of a call, and all texts of a list, one after the other
 unfoldable pub text_in : Call → List ℕ
-text_in (LoadText text) = text
+text_in (LoadText form text) = text
 text_in (PutIn k) = []
 text_in (RunEdge a p b q) = []
 text_in (TakeOutEdge k) = []

@@ -5,7 +5,7 @@ ghost use Rattle.std.specs.Prelude.{◌≡◌, true};
 ghost use Rattle.std.proofs.Math.Seq.{slice};
 ghost use Rattle.answers.specs.Answers.{answer_number};
 ghost use Rattle.sheet.specs.Check.{sound};
-ghost use Rattle.load.specs.Load.{load, returned};
+ghost use Rattle.load.specs.Load.{returned};
 ghost use Rattle.demand.specs.Calls.{of_edit, outcome};
 ghost use Rattle.replay.specs.Encoded.{call_by, calls_of};
 ghost use Rattle.replay.specs.Replayed.{Replayed};
@@ -25,13 +25,13 @@ struct Reply {
     taken: usize,
 }
 
-// Loads the part of the text from a start up to an end, the two numbers by which the C interface names it.
-fn load_part(text: &[u8], start: usize, end: usize) -> Result<Loaded, Refusal>
-    ensures { result ≡ load (slice start end text.now) }
+// The part of the text from a start up to an end, the two numbers by which the C interface names it.
+fn part(text: &[u8], start: usize, end: usize) -> &[u8]
+    ensures { result.now ≡ slice start end text.now }
 {
     let to = end.min(text.len());
     let from = start.min(to);
-    load::load(&text[from..to])
+    &text[from..to]
 }
 
 // What an edit of the sheet s replies: it takes no bytes.
@@ -58,7 +58,7 @@ fn of_load(s: Sheet, answer: Result<Loaded, Refusal>) -> Reply
     }
 }
 
-// One call on a sound sheet by its kind: 0 in, 1 run, 2 out, 3 off, 4 load; any other is refused 10. The C interface names the calls by these numbers.
+// One call on a sound sheet by its kind: 0 in, 1 run, 2 out, 3 off, 4 load, 6 the load of links; any other is refused 10. The C interface names the calls by these numbers.
 // The match of the edits is not shared: an `Edit`, which `apply` matches, holds numbers of 16 bits, and the entry for one edit refuses another kind by 1.
 #[tactic(auto, using(crate::proofs::OtherKind::no_such_edge), unfolding(crate::specs::Encoded::call_by, demand::specs::Calls::outcome))]
 fn step(kind: usize, a: usize, p: usize, b: usize, q: usize, text: &[u8], s: Sheet) -> Reply
@@ -70,7 +70,8 @@ fn step(kind: usize, a: usize, p: usize, b: usize, q: usize, text: &[u8], s: She
         1 => of_edit(s, run::run(s, a, p, b, q)),
         2 => of_edit(s, takeoutedge::take_out_edge(s, a)),
         3 => of_edit(s, takeoutvertex::take_out_vertex(s, a)),
-        4 => of_load(s, load_part(text, a, p)),
+        4 => of_load(s, load::load(part(text, a, p))),
+        6 => of_load(s, load::load_links(part(text, a, p))),
         _ => of_edit(s, Err(Refusal::NotInSheet)),
     }
 }

@@ -1,5 +1,5 @@
--- What load accepts is sound. Assumes nothing.
-use Rattle.std.proofs.Common.{Ok, Err, ◌≡◌, refl, ◌∙◌, subst, ◌≢◌, Bool, true, false, ◌&&◌, List, [], ◌∷◌, ◌++◌, ℕ, zero, suc, ◌+◌, ◌≤◌, ◌<◌, arith, leb, get_or, length, set, length-set, length-append, get_or-set_same, get_or-set_other}
+-- What load and the load of links accept is sound. Assumes nothing.
+use Rattle.std.proofs.Common.{Ok, Err, ◌≡◌, ◌↔◌, refl, ap, ◌∙◌, subst, ◌≢◌, Bool, true, false, ◌&&◌, List, [], ◌∷◌, ◌++◌, ℕ, zero, suc, ◌+◌, ◌≤◌, ◌<◌, arith, leb, get_or, length, set, length-set, length-append, get_or-set_same, get_or-set_other}
 use Rattle.std.proofs.Math.Logic.{by_cases}
 use Rattle.std.proofs.Math.Decide.{ℕ_discrete}
 use Rattle.std.proofs.Math.ListN.{get_or-append, length-replicate}
@@ -14,7 +14,7 @@ use Rattle.answers.specs.Answers.{Answer}
 use Rattle.answers.specs.Refusals.{answering}
 use Rattle.sheet.specs.Darts.{Sized, tail, head, darts, next}
 use Rattle.sheet.specs.Sound.{Limits, Joins, Sound}
-use Rattle.sheet.specs.Check.{judge}
+use Rattle.sheet.specs.Check.{sound}
 use Rattle.soundness.proofs.Tests.{le_says, and_says}
 use Rattle.soundness.specs.Laws.{Lined}
 use Rattle.soundness.proofs.Clauses.{limits_law, joined_law, unused_law, edge_says}
@@ -23,8 +23,12 @@ use Rattle.soundness.proofs.Judge.{judge_law}
 use Rattle.soundness.proofs.Law.{sound_law}
 use Rattle.soundness.proofs.Fresh.{fresh_law, fresh_sized}
 use Rattle.load.specs.Rings.{is_rotation, link_ring}
-use Rattle.text.specs.Keys.{bars_key, wires_key, wire_key, around_key}
-use Rattle.load.specs.Load.{Parsed, empty_sheet, with_edge, with_nexts, judged, ring_lines, edge_lines, with_count, load_lines, load}
+use Rattle.text.specs.Keys.{bars_key, wires_key, around_key}
+use Rattle.orientation.proofs.Choices.{directs_joins}
+use Rattle.orientation.proofs.Choosing.{oriented_counts, oriented_nexts, oriented_sized, oriented_past, oriented_directs}
+use Rattle.load.specs.declared.Form.{Form}
+use Rattle.load.specs.declared.Form.TheVariants.{Directed, Undirected}
+use Rattle.load.specs.Load.{Parsed, empty_sheet, with_edge, with_nexts, edge_key, directed, judge_of, judged, ring_lines, edge_lines, with_count, load_lines, load_from}
 use Rattle.roundtrip.specs.Laws.{LoadedSound}
 use Rattle.roundtrip.proofs.Around.{Around, around_law}
 use Rattle.soundness.proofs.Ends.{at_below}
@@ -82,13 +86,19 @@ edge_read s k a b E h l m n = record {
 
 -- ---- the rings
 
+-- both loads pass the sheets that are sound
+pub passes_law : (form : Form) (s : Sheet) → Lined s → judge_of form s ≡ Ok tt ↔ sound s ≡ true
+unfolding judge_of
+passes_law Directed s l = judge_law _ _ s l
+passes_law Undirected s l = judge_law _ _ s l
+
 -- after the last line
-judged_good : (s : Sheet) (at : ℕ) → Sized s → Lined s → Good (judged s at)
+judged_good : (form : Form) (s : Sheet) (at : ℕ) → Sized s → Lined s → Good (judged form s at)
 unfolding judged answering
-judged_good s at z l = go (judge s) refl
+judged_good form s at z l = go (judge_of form s) refl
   where
-    go : (a : Answer) → judge s ≡ a → Good (answering a (λ _. record { sheet = s; taken = at }))
-    go (Ok u) e = (z, (sound_law s z).0 ((judge_law s l).0 e))
+    go : (a : Answer) → judge_of form s ≡ a → Good (answering a (λ _. record { sheet = s; taken = at }))
+    go (Ok u) e = (z, (sound_law s z).0 ((passes_law form s l).0 e))
     go (Err r) e = tt
 
 -- the rings of the first bars are read, one after the other
@@ -134,30 +144,48 @@ module _ (s : Sheet) (E : Edged s s.edges) where
       unused = (unused_law (with_nexts s nexts) whole_sized).1 (record { tails = E.tails; heads = E.heads; nexts = R.unused });
     }
 
-  rings_good : (text : List ℕ) (r : ℕ) (rings : List (List ℕ)) (nexts : List ℕ) (v at : ℕ) → length rings ≡ v → v + r ≡ s.vertices → Ringed s rings nexts → Good (ring_lines r text (with_nexts s nexts) v at)
+  rings_good : (form : Form) (text : List ℕ) (r : ℕ) (rings : List (List ℕ)) (nexts : List ℕ) (v at : ℕ) → length rings ≡ v → v + r ≡ s.vertices → Ringed s rings nexts
+      → Good (ring_lines form r text (with_nexts s nexts) v at)
   unfolding ring_lines with_nexts is_rotation touches_of
-  rings_good text zero rings nexts v at z e R =
+  rings_good form text zero rings nexts v at z e R =
       let full : length rings ≡ s.vertices = omega arith in
-      judged_good (with_nexts s nexts) at (whole_sized rings nexts full R) (whole_lined rings nexts full R)
-  rings_good text (suc r) rings nexts v at z e R = some_shaped (line_reads around_key text at) Good _ _ (λ _. tt) (λ ws next _.
+      judged_good form (with_nexts s nexts) at (whole_sized rings nexts full R) (whole_lined rings nexts full R)
+  rings_good form text (suc r) rings nexts v at z e R = some_shaped (line_reads around_key text at) Good _ _ (λ _. tt) (λ ws next _.
       pick_each Good (is_rotation s v ws) _ _
-      (λ t. rw (link_anew s v (get_or ws 0 0) nexts ws nexts) (rings_good text r (rings ++ ws ∷ []) (link_ring s v ws nexts) (v + 1) next (omega (arith, length-append rings (ws ∷ []))) (omega arith) (ring_read rings v ws nexts z R ((around_law s v ws).0 t))))
+      (λ t. rw (link_anew s v (get_or ws 0 0) nexts ws nexts) (rings_good form text r (rings ++ ws ∷ []) (link_ring s v ws nexts) (v + 1) next (omega (arith, length-append rings (ws ∷ []))) (omega arith) (ring_read rings v ws nexts z R ((around_law s v ws).0 t))))
       (λ _. tt))
 
 -- no ring is read yet
 pub none_ringed : (s : Sheet) (k : ℕ) → Edged s k → Ringed s [] s.nexts
 none_ringed s k E = record { sized = E.sized.nexts; laid = λ u h. absurd (omega arith); unused = λ d h. E.nexts d }
 
+-- the edges are read, and have their directions
+pub directed_edged : (form : Form) (s : Sheet) → Edged s s.edges → Edged (directed form s) (directed form s).edges
+unfolding directed
+directed_edged Directed s E = E
+directed_edged Undirected s E =
+    let (vertices, edges) = oriented_counts s in
+    let past = λ (k : ℕ) (h : s.edges ≤ k). oriented_past s k h in
+    record {
+      limits = omega (arith, E.limits, vertices, edges);
+      sized = oriented_sized s E.sized E.limits.edges_most;
+      joins = λ k h. (let l : k < s.edges = omega (arith, edges) in directs_joins vertices (oriented_directs s k l) (E.joins k l));
+      tails = λ k h. (past k (omega (arith, edges))).0;
+      heads = λ k h. (past k (omega (arith, edges))).1;
+      nexts = λ d. ap (λ l. get_or l d 0) (oriented_nexts s) ∙ E.nexts d;
+    }
+
 -- ---- the whole text
 
-edges_good : (text : List ℕ) (r : ℕ) (s : Sheet) (k at : ℕ) → k + r ≡ s.edges → Edged s k → Good (edge_lines r text s k at)
+edges_good : (form : Form) (text : List ℕ) (r : ℕ) (s : Sheet) (k at : ℕ) → k + r ≡ s.edges → Edged s k → Good (edge_lines form r text s k at)
 unfolding edge_lines with_edge with_nexts
-edges_good text zero s k at e E =
-    let whole : Edged s s.edges = subst (Edged s) (omega arith) E in
-    rings_good s whole text s.vertices [] s.nexts 0 at refl (omega arith) (none_ringed s k E)
-edges_good text (suc r) s k at e E = two_shaped (line_reads wire_key text at) Good _ _ (λ _. tt) (λ a b next _.
+edges_good form text zero s k at e E =
+    let t : Sheet = directed form s in
+    let whole : Edged t t.edges = directed_edged form s (subst (Edged s) (omega arith) E) in
+    rings_good t whole form text t.vertices [] t.nexts 0 at refl (omega arith) (none_ringed t t.edges whole)
+edges_good form text (suc r) s k at e E = two_shaped (line_reads (edge_key form) text at) Good _ _ (λ _. tt) (λ a b next _.
     pick_each Good _ _ _
-    (λ t. let ((l, m), n) = (edge_says s a b).0 t in edges_good text r (with_edge s k a b) (k + 1) next (omega arith) (edge_read s k a b E (omega arith) l m n))
+    (λ t. let ((l, m), n) = (edge_says s a b).0 t in edges_good form text r (with_edge s k a b) (k + 1) next (omega arith) (edge_read s k a b E (omega arith) l m n))
     (λ _. tt))
 
 pub empty_read : (n m : ℕ) → 2 ≤ n → n ≤ 128 → 2 ≤ m → m ≤ 256 → Edged (empty_sheet n m) 0
@@ -176,20 +204,20 @@ unfolding with_count
 count_good key text at most good f = one_shaped (line_reads key text at) Good _ _ (λ _. tt) (λ n next _.
     pick_each Good (leb 2 n && leb n most) _ _ (λ t. let (l, m) = (and_says (le_says 2 n) (le_says n most)).0 t in f n next l m) (λ _. tt))
 
-lines_good : (text : List ℕ) → Good (load_lines text)
+lines_good : (form : Form) (text : List ℕ) → Good (load_lines form text)
 unfolding load_lines empty_sheet
-lines_good text = count_good bars_key text 0 128 _ (λ n next a b.
+lines_good form text = count_good bars_key text 0 128 _ (λ n next a b.
     count_good wires_key text next 256 _ (λ m after c d.
-    edges_good text m (empty_sheet n m) 0 after (omega arith) (empty_read n m a b c d)))
+    edges_good form text m (empty_sheet n m) 0 after (omega arith) (empty_read n m a b c d)))
 
 -- no bytes give the fresh sheet
-load_good : (text : List ℕ) → Good (load text)
-unfolding load
-load_good [] = (fresh_sized, fresh_law)
-load_good (b ∷ text) = lines_good (b ∷ text)
+load_good : (form : Form) (text : List ℕ) → Good (load_from form text)
+unfolding load_from
+load_good form [] = (fresh_sized, fresh_law)
+load_good form (b ∷ text) = lines_good form (b ∷ text)
 
 pub loaded_sound : LoadedSound
-loaded_sound text l e = go (load text) (load_good text) e
+loaded_sound form text l e = go (load_from form text) (load_good form text) e
   where
     go : (p : Parsed) → Good p → p ≡ Ok l → Sized l.sheet × Sound l.sheet
     go (Ok m) g e = subst Good e g

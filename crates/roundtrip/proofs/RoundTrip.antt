@@ -19,12 +19,15 @@ use Rattle.answers.specs.Refusals.{answering}
 use Rattle.sheet.specs.Darts.{Sized, tail, head, darts, vertex, next}
 use Rattle.sheet.specs.Sound.{Joins, Sound}
 use Rattle.soundness.proofs.Rings.{vertex_below}
-use Rattle.soundness.proofs.Judge.{passed_says, judge_law}
+use Rattle.soundness.proofs.Judge.{passed_says}
+use Rattle.roundtrip.proofs.Loaded.{passes_law}
 use Rattle.soundness.proofs.Law.{sound_law}
 use Rattle.text.specs.Keys.{bars_key, wires_key, wire_key, around_key}
 use Rattle.load.specs.Rings.{is_rotation, link_ring}
 use Rattle.writesheet.specs.Rings.{rotation}
-use Rattle.load.specs.Load.{Parsed, empty_sheet, with_edge, with_nexts, judged, ring_lines, edge_lines, with_count, parsed, load_lines, load}
+use Rattle.load.specs.declared.Form.{Form}
+use Rattle.load.specs.declared.Form.TheVariants.{Directed}
+use Rattle.load.specs.Load.{Parsed, empty_sheet, with_edge, with_nexts, edge_key, directed, judged, ring_lines, edge_lines, with_count, parsed, load_lines, load}
 use Rattle.load.proofs.Turns.{lines_accepted}
 use Rattle.writesheet.specs.Write.{sheet_lines, sheet_text}
 use Rattle.roundtrip.specs.Laws.{RoundTripLaw, MixedRoundTrip}
@@ -45,7 +48,7 @@ ring_text ring v = line around_key (ring v)
 
 -- one line of a ring
 ring_step : (text : List ℕ) (s : Sheet) (nexts ws : List ℕ) (r v at after : ℕ) → line_at around_key text at ≡ listed ws after → is_rotation s v ws ≡ true
-    → ring_lines (suc r) text (with_nexts s nexts) v at ≡ ring_lines r text (with_nexts s (link_ring s v ws nexts)) (v + 1) after
+    → ring_lines Directed (suc r) text (with_nexts s nexts) v at ≡ ring_lines Directed r text (with_nexts s (link_ring s v ws nexts)) (v + 1) after
 unfolding ring_lines with_some with_nexts is_rotation touches_of
 ring_step text s nexts ws r v at after e t = rw (e, t, link_anew s v (get_or ws 0 0) nexts ws nexts)
 
@@ -55,8 +58,8 @@ partly s tails heads = record { vertices = s.vertices; edges = s.edges; tails = 
 
 -- one line of a wire
 edge_step : (text : List ℕ) (s : Sheet) (tails heads : List ℕ) (r k at after : ℕ) → line_at wire_key text at ≡ listed (tail s k ∷ head s k ∷ []) after → Joins s k
-    → edge_lines (suc r) text (partly s tails heads) k at ≡ edge_lines r text (partly s (set tails k (tail s k)) (set heads k (head s k))) (k + 1) after
-unfolding edge_lines with_two with_edge partly
+    → edge_lines Directed (suc r) text (partly s tails heads) k at ≡ edge_lines Directed r text (partly s (set tails k (tail s k)) (set heads k (head s k))) (k + 1) after
+unfolding edge_lines edge_key with_two with_edge partly
 edge_step text s tails heads r k at after e J = rw (e, lt-ltb (tail s k) s.vertices J.tail_in, lt-ltb (head s k) s.vertices J.head_in, ne_eqb (tail s k) (head s k) J.different)
 
 -- a line of a count
@@ -65,11 +68,11 @@ unfolding with_count with_one
 count_step l n after most good e h k = rw (e, le-leb 2 n h, le-leb n most k)
 
 -- a sound sheet passes after the last line
-pub sound_judged : (s : Sheet) → Sized s → Sound s → (at : ℕ) → judged s at ≡ parsed s at
+pub sound_judged : (form : Form) (s : Sheet) → Sized s → Sound s → (at : ℕ) → judged form s at ≡ parsed s at
 unfolding judged answering
-sound_judged s z S at =
+sound_judged form s z S at =
     let t = (sound_law s z).1 S in
-    rw ((judge_law s ((passed_says s).0 t).lined).1 t)
+    rw ((passes_law form s ((passed_says s).0 t).lined).1 t)
 
 -- a sound sheet, and for each bar its wires clockwise, begun anywhere
 module _ (s : Sheet) (z : Sized s) (S : Sound s) (ring : ℕ → List ℕ) (rotates : (v : ℕ) → v < s.vertices → Rotated s v (ring v)) where
@@ -102,11 +105,11 @@ module _ (s : Sheet) (z : Sized s) (S : Sound s) (ring : ℕ → List ℕ) (rota
   -- the lines of the rings stand in the text at a place
   module _ (text : List ℕ) (base : ℕ) (us : List ℕ) (J : Joined (ring_text ring) s.vertices us) (H : Stands text base us) where
     rings_back : (r : ℕ) (nexts : List ℕ) (v at : ℕ) → v + r ≡ s.vertices → at ≡ base + length (join_below J.mixed v) → Placed v nexts
-        → ring_lines r text (with_nexts s nexts) v at ≡ parsed s (base + length us)
+        → ring_lines Directed r text (with_nexts s nexts) v at ≡ parsed s (base + length us)
     unfolding ring_lines with_nexts endless
     rings_back zero nexts v at e p P =
         let q : v ≡ s.vertices = omega arith in
-        rw (placed_all nexts (rw q at P), p, q, ← J.whole) (sound_judged s z S _)
+        rw (placed_all nexts (rw q at P), p, q, ← J.whole) (sound_judged Directed s z S _)
     rings_back (suc r) nexts v at e p P =
         let T : Rotated s v (ring v) = rotates v (omega arith) in
         let numerals : Numerals (ring v) = record { some = T.some; small = λ i h. omega (arith, T.around.inside i h, S.limits.edges_most) } in
@@ -117,8 +120,8 @@ module _ (s : Sheet) (z : Sized s) (S : Sound s) (ring : ℕ → List ℕ) (rota
   -- and those of the wires
   module _ (text : List ℕ) (base : ℕ) (us : List ℕ) (J : Joined (edge_text s) s.edges us) (H : Stands text base us) where
     edges_back : (r : ℕ) (tails heads : List ℕ) (k at : ℕ) → k + r ≡ s.edges → at ≡ base + length (join_below J.mixed k) → Filled s.tails k tails → Filled s.heads k heads
-        → edge_lines r text (partly s tails heads) k at ≡ ring_lines s.vertices text (with_nexts s (zeros 512)) 0 (base + length us)
-    unfolding edge_lines with_nexts partly endless
+        → edge_lines Directed r text (partly s tails heads) k at ≡ ring_lines Directed s.vertices text (with_nexts s (zeros 512)) 0 (base + length us)
+    unfolding edge_lines directed with_nexts partly endless
     edges_back zero tails heads k at e p F G =
         let q : k ≡ s.edges = omega arith in
         rw (filled_all S.unused.tails (rw q at F), filled_all S.unused.heads (rw q at G), p, q, ← J.whole)
@@ -134,7 +137,7 @@ module _ (s : Sheet) (z : Sized s) (S : Sound s) (ring : ℕ → List ℕ) (rota
   placed_none = record { sized = length-replicate {A = ℕ} 512 0; done = λ d h l. absurd (omega arith); unused = λ d h. replicate_at 0 512 d }
 
   -- the whole text stands at the front
-  whole_back : (text us : List ℕ) → MixedEnds (sheet_lines s ring) us → Stands text 0 us → load_lines text ≡ parsed s (length us)
+  whole_back : (text us : List ℕ) → MixedEnds (sheet_lines s ring) us → Stands text 0 us → load_lines Directed text ≡ parsed s (length us)
   unfolding load_lines empty_sheet partly join_below endless
   whole_back text us m H =
       let last = mixed_parts (bars ++ wires ++ edges) rings us m in
@@ -170,7 +173,7 @@ module _ (s : Sheet) (z : Sized s) (S : Sound s) (ring : ℕ → List ℕ) (rota
       rings = join_below (ring_text ring) s.vertices
 
   pub lines_back : (text : List ℕ) → MixedEnds (sheet_lines s ring) text → (rest : List ℕ) → load (text ++ rest) ≡ parsed s (length text)
-  lines_back text m rest = lines_accepted (text ++ rest) (whole_back (text ++ rest) text m (stands_front text rest))
+  lines_back text m rest = lines_accepted Directed (text ++ rest) (whole_back (text ++ rest) text m (stands_front text rest))
 
 pub mixed_round_trip : MixedRoundTrip
 unfolding sheet_text

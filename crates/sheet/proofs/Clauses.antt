@@ -12,12 +12,12 @@ use Rattle.digraph.proofs.Relaxation.{found_none, found_some}
 use Rattle.digraph.proofs.Tests.{within_is}
 use Rattle.clauses.specs.declared.Sheet.{Sheet}
 use Rattle.answers.specs.declared.Refusal.{Refusal}
-use Rattle.answers.specs.declared.Refusal.TheVariants.{BadRoot, Cyclic, BadPoles, NotPlanar, NotSound}
+use Rattle.answers.specs.declared.Refusal.TheVariants.{BadRoot, NotPlanar, NotSound}
 use Rattle.sheet.specs.declared.Findings.{Findings}
 use Rattle.answers.specs.Answers.{Answer}
 use Rattle.answers.specs.Refusals.{first, answering}
 use Rattle.sheet.specs.Darts.{tail, head, darts}
-use Rattle.sheet.specs.Check.{within_limits, joined, in_rings, unused_zero, rooted, row_levels, acyclic, incoming, outgoing, poles, face_table, planar, sound, judge}
+use Rattle.sheet.specs.Check.{within_limits, joined, in_rings, unused_zero, rooted, row_levels, acyclic, incoming, outgoing, poles, face_table, planar, sound, judge_by}
 use Rattle.sheet.specs.Inner.{findings_in, bounded, faced_of, judged_of, findings_of}
 use Rattle.clauses.proofs.Touching.{joins_means}
 use Rattle.digraph.specs.Inner.{Ends}
@@ -65,9 +65,9 @@ faced_is s = refl
 faced_or : (s : Sheet) (r : Refusal) → ok_or (faced_of s.vertices s.edges s.nexts (row_levels s).level) r ≡ cond (planar s) (Ok (findings_in s)) (Err r)
 faced_or s r = rw (faced_is s) (by_bool (planar s) (λ t. rw t refl) (λ t. rw t refl))
 
-judged_by : (s : Sheet) → rooted s ≡ true → acyclic s ≡ true → poles s ≡ true → cond (planar s) (Ok (findings_in s)) (Err NotPlanar) ≡ judged_of s
-unfolding judged_of judge first answering
-judged_by s r a p = rw (r, a, p) (by_bool (planar s) (λ t. rw t refl) (λ t. rw t refl))
+judged_by : (circle bars : Refusal) (s : Sheet) → rooted s ≡ true → acyclic s ≡ true → poles s ≡ true → cond (planar s) (Ok (findings_in s)) (Err NotPlanar) ≡ judged_of circle bars s
+unfolding judged_of judge_by first answering
+judged_by circle bars s r a p = rw (r, a, p) (by_bool (planar s) (λ t. rw t refl) (λ t. rw t refl))
 
 pub face_refused : (n m : ℕ) (nexts rows walk : List ℕ) → walk ≡ dart_table (walk_of nexts) (2 * m) → (f : Traced) → f ≡ traced (2 * m) walk → (n + f.count ≡ m + 2 → ⊥)
     → None ≡ faced_of n m nexts rows
@@ -110,26 +110,26 @@ module _ (n m : ℕ) (tails heads : List ℕ) where
         let w = acyclic_within acyclic_law in
         (w.few_nodes, record { few = w.few_edges; inside = λ k h. omega (arith, w.from_in k h) }, record { few = w.few_edges; inside = λ k h. omega (arith, w.to_in k h) })
 
-  module _ (nexts : List ℕ) where
-    pub bad_root : rooted_of tails heads ≡ false → Err BadRoot ≡ judged_of (sheet_of n m tails heads nexts)
-    unfolding judged_of judge first answering rooted rooted_of
+  module _ (circle bars : Refusal) (nexts : List ℕ) where
+    pub bad_root : rooted_of tails heads ≡ false → Err BadRoot ≡ judged_of circle bars (sheet_of n m tails heads nexts)
+    unfolding judged_of judge_by first answering rooted rooted_of
     bad_root r = rw r refl
 
     module _ (r : rooted_of tails heads ≡ true) where
-      pub cyclic : None ≡ found (levels_of n m tails heads) → Err Cyclic ≡ judged_of (sheet_of n m tails heads nexts)
-      unfolding judged_of judge first answering rooted rooted_of acyclic row_levels
+      pub cyclic : None ≡ found (levels_of n m tails heads) → Err circle ≡ judged_of circle bars (sheet_of n m tails heads nexts)
+      unfolding judged_of judge_by first answering rooted rooted_of acyclic row_levels
       cyclic e = rw (r, found_none (levels_of n m tails heads) e) refl
 
       module _ (rows : List ℕ) (e : Some rows ≡ found (levels_of n m tails heads)) where
-        pub bad_poles : poles_of n m tails heads ≡ false → Err BadPoles ≡ judged_of (sheet_of n m tails heads nexts)
-        unfolding judged_of judge first answering rooted rooted_of acyclic row_levels
+        pub bad_poles : poles_of n m tails heads ≡ false → Err bars ≡ judged_of circle bars (sheet_of n m tails heads nexts)
+        unfolding judged_of judge_by first answering rooted rooted_of acyclic row_levels
         bad_poles p = rw (r, acyclic_law rows e, poles_is (sheet_of n m tails heads nexts), p) refl
 
-        pub by_faces : poles_of n m tails heads ≡ true → (f : Result Findings Refusal) → f ≡ ok_or (faced_of n m nexts rows) NotPlanar → f ≡ judged_of (sheet_of n m tails heads nexts)
+        pub by_faces : poles_of n m tails heads ≡ true → (f : Result Findings Refusal) → f ≡ ok_or (faced_of n m nexts rows) NotPlanar → f ≡ judged_of circle bars (sheet_of n m tails heads nexts)
         unfolding rooted rooted_of acyclic row_levels
         by_faces p f q =
             let s = sheet_of n m tails heads nexts in
-            q ∙ ap (λ l. ok_or (faced_of n m nexts l) NotPlanar) (found_some (levels_of n m tails heads) rows e).1 ∙ faced_or s NotPlanar ∙ judged_by s r (acyclic_law rows e) (poles_is s ∙ p)
+            q ∙ ap (λ l. ok_or (faced_of n m nexts l) NotPlanar) (found_some (levels_of n m tails heads) rows e).1 ∙ faced_or s NotPlanar ∙ judged_by circle bars s r (acyclic_law rows e) (poles_is s ∙ p)
 
 -- what is found of the digraph of a sheet is found of its arrays
 pub of_digraph : {n n' m m' : ℕ} {from to tails heads : List ℕ} → (n ≡ n') × (m ≡ m') × (from ≡ tails) × (to ≡ heads)
@@ -147,17 +147,17 @@ bounded_ends s t =
     (n, m, λ b h. joined_ends s.vertices s.edges s.tails s.heads b h m j)
 
 module _ (s : Sheet) where
-  pub judged_refused : (r : Refusal) → judged_of s ≡ Err r → judge s ≡ Err r
+  pub judged_refused : (circle bars r : Refusal) → judged_of circle bars s ≡ Err r → judge_by circle bars s ≡ Err r
   unfolding judged_of answering
-  judged_refused r = go (judge s)
+  judged_refused circle bars r = go (judge_by circle bars s)
     where
       go : (a : Answer) → answering a (λ _. findings_in s) ≡ Err r → a ≡ Err r
       go (Ok u) e = cc e
       go (Err q) e = cc e
 
-  pub judged_accepted : (f : Findings) → judged_of s ≡ Ok f → judge s ≡ Ok tt
+  pub judged_accepted : (circle bars : Refusal) (f : Findings) → judged_of circle bars s ≡ Ok f → judge_by circle bars s ≡ Ok tt
   unfolding judged_of answering
-  judged_accepted f = go (judge s)
+  judged_accepted circle bars f = go (judge_by circle bars s)
     where
       go : (a : Answer) → answering a (λ _. findings_in s) ≡ Ok f → a ≡ Ok tt
       go (Ok u) e = refl

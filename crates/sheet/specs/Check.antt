@@ -1,14 +1,15 @@
 -- Soundness as a test that computes, clause by clause; and rows, faces and columns as functions.
 use Rattle.std.specs.Prelude.{ℕ, ◌+◌, ◌-◌, Bool, cond, not, ◌&&◌, ◌||◌, List, [], ◌∷◌, ◌++◌, eqb, ltb, leb, get_or, replicate}
 use Rattle.std.specs.Bool.{beq}
-use Rattle.counting.specs.Below.{all_below, some_below, tabulate}
+use Rattle.counting.specs.Below.{all_below, some_below, tabulate, table}
 use Rattle.orbits.specs.declared.Traced.{Traced}
 use Rattle.orbits.specs.Tables.{traced, is_permutation}
 use Rattle.digraph.specs.Digraph.{Layering}
 use Rattle.digraph.specs.Relaxed.{levels_of}
 use Rattle.clauses.specs.declared.Sheet.{Sheet}
 use Rattle.answers.specs.Answers.{Answer}
-use Rattle.answers.specs.declared.Refusal.TheVariants.{BadRoot, Cyclic, BadPoles, NotPlanar}
+use Rattle.answers.specs.declared.Refusal.{Refusal}
+use Rattle.answers.specs.declared.Refusal.TheVariants.{BadRoot, Cyclic, BadPoles, NotPlanar, NotOrientable}
 use Rattle.answers.specs.Refusals.{first, ◌if◌}
 use Rattle.clauses.specs.Darts.{tail_dart, head_dart}
 use Rattle.sheet.specs.Darts.{tail, head, darts, vertex, next, walk}
@@ -77,15 +78,23 @@ planar s = eqb (s.vertices + face_count s) (s.edges + 2)
 unfoldable pub sound : Sheet → Bool
 sound s = within_limits s && joined s && in_rings s && unused_zero s && rooted s && acyclic s && poles s && planar s
 
--- What load refuses after the last line: 5 wire 0 isn't from 0 to 1. 6 a directed circle. 7 the rule on bars 0 and 1. 8 n − m + f isn't 2.
-unfoldable pub judge : Sheet → Answer
-judge s =
+-- What a load refuses after the last line, where it refuses a directed circle by `circle`, and by `bars` what breaks the rule on bars 0 and 1.
+unfoldable pub judge_by : (circle bars : Refusal) → Sheet → Answer
+judge_by circle bars s =
     first
     (BadRoot if not (rooted s)
-    ∷ Cyclic if not (acyclic s)
-    ∷ BadPoles if not (poles s)
+    ∷ circle if not (acyclic s)
+    ∷ bars if not (poles s)
     ∷ NotPlanar if not (planar s)
     ∷ [])
+
+-- Load: 5 wire 0 isn't from 0 to 1. 6 a directed circle. 7 the rule on bars 0 and 1. 8 n − m + f isn't 2.
+abbrev pub judge : Sheet → Answer
+judge s = judge_by Cyclic BadPoles s
+
+-- The load of links, with the directions that it chose: 19 in the place of 6 and 7.
+abbrev pub judge_links : Sheet → Answer
+judge_links s = judge_by NotOrientable NotOrientable s
 
 -- Between faces each wire but wire 0 leads from its left face to its right face, wire 0 from its right face to its left.
 unfoldable pub face_from : Sheet → ℕ → ℕ
@@ -96,7 +105,7 @@ face_to s k = cond (eqb k 0) (face s (tail_dart k)) (face s (head_dart k))
 
 -- a table over the wires, with 0 past them
 unfoldable pub edge_table : (ℕ → ℕ) → Sheet → List ℕ
-edge_table g s = tabulate g s.edges ++ replicate (256 - s.edges) 0
+edge_table g s = table g s.edges 256 0
 
 -- Column of a face: the most steps on such a path to it; of a sound sheet such a path starts at the right face of wire 0.
 unfoldable pub column_levels : Sheet → Layering

@@ -7,7 +7,7 @@ use Rattle.answers.specs.declared.Refusal.{Refusal}
 use Rattle.answers.specs.declared.Refusal.TheVariants.{NotSound}
 use Rattle.sheet.specs.declared.Findings.{Findings}
 use Rattle.answers.specs.Refusals.{answering}
-use Rattle.sheet.specs.Check.{within_limits, joined, in_rings, unused_zero, row_levels, face_table, sound, judge}
+use Rattle.sheet.specs.Check.{within_limits, joined, in_rings, unused_zero, row_levels, face_table, sound, judge_by}
 
 unfoldable pub findings_in : Sheet → Findings
 findings_in s = record { rows = (row_levels s).level; faces = (face_table s).orbit; count = (face_table s).count }
@@ -27,8 +27,8 @@ faced_of n m nexts rows =
     cond (eqb (n + faces.count) (m + 2)) (Some (record { rows = rows; faces = faces.orbit; count = faces.count })) None
 
 -- by the other four
-unfoldable pub judged_of : Sheet → Result Findings Refusal
-judged_of s = answering (judge s) (λ _. findings_in s)
+unfoldable pub judged_of : (circle bars : Refusal) → Sheet → Result Findings Refusal
+judged_of circle bars s = answering (judge_by circle bars s) (λ _. findings_in s)
 
 -- by all
 unfoldable pub findings_of : Sheet → Result Findings Refusal

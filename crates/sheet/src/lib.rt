@@ -3,7 +3,7 @@
 
 ghost use Rattle.std.specs.Prelude.{◌≡◌, ◌≤◌};
 ghost use Rattle.sheet.specs.Fresh.{fresh_sheet};
-ghost use Rattle.sheet.specs.Check.{sound, judge};
+ghost use Rattle.sheet.specs.Check.{sound, judge, judge_links};
 ghost use Rattle.sheet.specs.Inner.{bounded, faced_of, judged_of, findings_of};
 
 use answers::Refusal;
@@ -60,18 +60,19 @@ fn faced(s: &Sheet, rows: [u16; 256]) -> Option<Findings>
     Some(Findings { rows, faces, count })
 }
 
-// Judges by the last four clauses in order: edge 0, directed circles, vertices 0 and 1, the number of faces.
-fn judged(s: &Sheet) -> Result<Findings, Refusal>
-    ensures { result ≡ judged_of s.now }
+// Judges by the last four clauses in order: edge 0, directed circles, vertices 0 and 1, the number of faces. The second and the third have the
+// refusals that are handed in.
+fn judged(s: &Sheet, circle: Refusal, poles: Refusal) -> Result<Findings, Refusal>
+    ensures { result ≡ judged_of circle poles s.now }
 {
     if !s.is_rooted() {
         return Err(Refusal::BadRoot);
     }
     let Some(rows) = s.digraph().levels() else {
-        return Err(Refusal::Cyclic);
+        return Err(circle);
     };
     if !s.has_poles() {
-        return Err(Refusal::BadPoles);
+        return Err(poles);
     }
     faced(s, rows).ok_or(Refusal::NotPlanar)
 }
@@ -100,7 +101,15 @@ pub fn examine(s: Sheet) -> Result<Findings, Refusal>
 pub fn judge(s: &Sheet) -> Result<(), Refusal>
     ensures { result ≡ judge s.now }
 {
-    judged(s)?;
+    judged(s, Refusal::Cyclic, Refusal::BadPoles)?;
+    Ok(())
+}
+
+// What the load of links refuses after its last line, of the sheet with the directions that it chose: 5, 19 in the place of 6 and 7, 8.
+pub fn judge_links(s: &Sheet) -> Result<(), Refusal>
+    ensures { result ≡ judge_links s.now }
+{
+    judged(s, Refusal::NotOrientable, Refusal::NotOrientable)?;
     Ok(())
 }
 

@@ -1,5 +1,5 @@
 -- Columns of a sound sheet.
-use Rattle.std.proofs.Common.{◌≡◌, refl, sym, ◌∙◌, ap, ◌≢◌, Bool, true, false, ℕ, ◌-◌, ◌/◌, ◌<◌, arith, get_or, replicate, ne_eqb}
+use Rattle.std.proofs.Common.{◌≡◌, refl, sym, ◌∙◌, ap, ◌≢◌, Bool, true, false, ℕ, ◌/◌, ◌<◌, arith, get_or, ne_eqb}
 use Rattle.std.proofs.Math.Logic.{by_cases}
 use Rattle.std.proofs.Math.Decide.{ℕ_discrete}
 use Rattle.digraph.specs.Digraph.{Within}
@@ -16,7 +16,7 @@ use Rattle.sheet.specs.Levels.FaceLeads.{across as left_to_right, root as right_
 use Rattle.sheet.specs.Check.{face, face_count, face_from, face_to, edge_table, column_levels, column}
 use Rattle.soundness.specs.Maps.{map_of}
 use Rattle.soundness.specs.Laws.{Columns}
-use Rattle.counting.proofs.Below.{get_d_tabulated}
+use Rattle.counting.proofs.Tables as tables
 use Rattle.counting.proofs.Paths.{carry}
 use Rattle.soundness.proofs.Darts.{dart, dart_is, dart_kind, dart_below, dart_opposite, edge_below}
 use Rattle.soundness.proofs.Levels.{circle_over, longest_over, acyclic_says, level_longest}
@@ -28,7 +28,7 @@ module _ (s : Sheet) where
   -- an edge table's entry at a wire
   pub table_at : (g : ℕ → ℕ) (k : ℕ) → k < s.edges → get_or (edge_table g s) k 0 ≡ g k
   unfolding edge_table
-  table_at g k h = get_d_tabulated g (replicate (256 - s.edges) 0) 0 s.edges k h
+  table_at g k h = tables.table_at g 256 0 0 s.edges k h
 
   to_step : (b c : ℕ) → FaceLeads s (face s) b c → FaceStep (map_of s) b c
   to_step b c (left_to_right k h n p q) = across (record { below = dart_below true h; is_out = dart_kind true k }) (omega arith) p (ap (face s) (dart_opposite true k) ∙ q)

@@ -1,7 +1,7 @@
 -- Soundness test by test; and what load refuses after the last line.
 use Rattle.std.proofs.Common.{◌≡◌, true, []}
 use Rattle.clauses.specs.declared.Sheet.{Sheet}
-use Rattle.sheet.specs.Check.{within_limits, joined, in_rings, unused_zero, rooted, acyclic, poles, planar, sound, judge}
+use Rattle.sheet.specs.Check.{within_limits, joined, in_rings, unused_zero, rooted, acyclic, poles, planar, sound, judge_by}
 use Rattle.soundness.specs.Laws.{Lined, JudgeLaw}
 use Rattle.soundness.proofs.Tests.{Says, reworded, and_says, itself}
 use Rattle.answers.proofs.Refusals.{accepts_none, accepts}
@@ -26,8 +26,8 @@ module _ (s : Sheet) where
       (λ x. (((((((x.lined.limits, x.lined.joins), x.lined.rings), x.lined.unused), x.root), x.no_circle), x.bars), x.two))
 
 pub judge_law : JudgeLaw
-unfolding judge
-judge_law s x = (
+unfolding judge_by
+judge_law circle bars s x = (
   λ e.
       let (o, f) = (accepts _ (rooted s) _).0 e in
       let (a, g) = (accepts _ (acyclic s) _).0 f in

@@ -1,11 +1,12 @@
 -- What is proved of sheets.
 use Rattle.std.specs.Prelude.{ℕ, ◌≤◌, ◌<◌, ◌≡◌, ◌≢◌, ◌↔◌, true, Ok}
 use Rattle.clauses.specs.declared.Sheet.{Sheet}
+use Rattle.answers.specs.declared.Refusal.{Refusal}
 use Rattle.sheet.specs.Darts.{Sized, tail, head}
 use Rattle.sheet.specs.Fresh.{fresh_sheet}
 use Rattle.sheet.specs.Sound.{Sound, Faces}
 use Rattle.sheet.specs.Levels.{Row, Column, left_face, right_face}
-use Rattle.sheet.specs.Check.{within_limits, joined, in_rings, unused_zero, sound, judge, row, face, face_count, column}
+use Rattle.sheet.specs.Check.{within_limits, joined, in_rings, unused_zero, sound, judge_by, row, face, face_count, column}
 
 -- The test that computes says what soundness is.
 abbrev pub SoundLaw : Type 0
@@ -18,9 +19,9 @@ pub record Lined (s : Sheet) : Type 0 where
   pub rings : in_rings s ≡ true
   pub unused : unused_zero s ≡ true
 
--- Where it is not refused before, load accepts the sheets that are sound.
+-- Where it is not refused before, a load accepts the sheets that are sound, whatever it refuses circles and the rule on bars 0 and 1 by.
 abbrev pub JudgeLaw : Type 0
-JudgeLaw = (s : Sheet) → Lined s → judge s ≡ Ok tt ↔ sound s ≡ true
+JudgeLaw = (circle bars : Refusal) (s : Sheet) → Lined s → judge_by circle bars s ≡ Ok tt ↔ sound s ≡ true
 
 -- The fresh sheet is sound.
 abbrev pub FreshLaw : Type 0

@@ -11,5 +11,8 @@ wires_key = bytes "wires="
 abbrev pub wire_key : List ℕ
 wire_key = bytes "wire="
 
+abbrev pub link_key : List ℕ
+link_key = bytes "link="
+
 abbrev pub around_key : List ℕ
 around_key = bytes "around="

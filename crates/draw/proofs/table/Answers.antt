@@ -1,6 +1,6 @@
 -- `table` meets its contract. The first k entries are filled. Assumes nothing.
 use Rattle.std.proofs.Common.{arith, length-take-le, replicate}
-use Rattle.draw.proofs.Filling.{table_front, table_more, table_whole}
+use Rattle.counting.proofs.Tables.{table_front, table_more, table_whole}
 use Rattle.draw.proofs.table.Goals as goal
 
 pub loop-k-init : goal.loop-k-init

@@ -1,5 +1,5 @@
 use Rattle.std.proofs.Common.{ℕ, ◌≡◌, ◌<◌}
-use Rattle.draw.specs.Inner.{table}
+use Rattle.counting.specs.Below.{table}
 use Rattle.draw.proofs.table.Given as goal
 
 abbrev pub invariant-loop-k : goal.invariant-loop-k

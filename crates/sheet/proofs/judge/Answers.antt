@@ -6,7 +6,7 @@ use Rattle.sheet.proofs.judge.Goals as goal
 pub returns-in_err-judged : goal.returns-in_err-judged
 returns-in_err-judged c =
     let e : c.from_residual.result ≡ Err c.in_err-judged.field-0.0 = search rules in
-    e ∙ sym (judged_refused _ _ (sym c.judged.ensures ∙ c.in_err-judged.was))
+    e ∙ sym (judged_refused _ _ _ _ (sym c.judged.ensures ∙ c.in_err-judged.was))
 
 pub returns : goal.returns
-returns c = sym (judged_accepted _ _ (sym c.judged.ensures ∙ c.in_ok-judged.was))
+returns c = sym (judged_accepted _ _ _ _ (sym c.judged.ensures ∙ c.in_ok-judged.was))

@@ -1,7 +1,7 @@
 -- `draw::vertex_segments` meets its contract. The segments reach as far as those of the first k edges that leave the vertices. Assumes nothing.
 use Rattle.std.proofs.Common.{◌≡◌, refl, ◌∙◌, arith}
 use Rattle.drawing.specs.Draw.{no_vertex_segment}
-use Rattle.draw.proofs.Filling.{table_agree}
+use Rattle.counting.proofs.Tables.{table_agree}
 use Rattle.draw.proofs.Widening.{reached_none, widened_more, sink_put}
 use Rattle.draw.proofs.Places.vertex_segments.Goals as goal
 

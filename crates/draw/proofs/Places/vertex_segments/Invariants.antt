@@ -1,6 +1,7 @@
 use Rattle.std.proofs.Common.{◌≡◌}
 use Rattle.drawing.specs.Draw.{no_vertex_segment}
-use Rattle.draw.specs.Inner.{table, vertex_from}
+use Rattle.counting.specs.Below.{table}
+use Rattle.draw.specs.Inner.{vertex_from}
 use Rattle.draw.proofs.Places.vertex_segments.Given as goal
 
 abbrev pub invariant-loop-k : goal.invariant-loop-k

@@ -1,10 +1,9 @@
 use Rattle.std.proofs.Common.{◌≡◌, ℕ, ◌<◌, ◌≤◌, true, ◌≢◌, Some, sym, ◌∙◌, arith, get_or-set_other}
 use Rattle.text.specs.Reading.{line_at}
-use Rattle.text.specs.Keys.{wire_key}
 use Rattle.text.specs.Shapes.{pair_of}
 use Rattle.clauses.proofs.Touching.{joins_means}
-use Rattle.load.specs.Load.{with_edge}
-use Rattle.load.proofs.Turns.{Joins, edges_more, apart_more}
+use Rattle.load.specs.Load.{edge_key, with_edge}
+use Rattle.load.proofs.Turns.{Joins, edges_more, joining_more}
 use Rattle.load.proofs.Ends.{counted_most, counted_more, more_other}
 use Rattle.load.proofs.lines.edge_lines.Goals as goal
 
@@ -30,17 +29,17 @@ loop-k-preserved c =
     let loop = c.loop-k in
     let inv = loop.invariant in
     let sheet = loop.sheet in
-    let line : Some (c.in_ok-a.a, c.in_ok-a.b, c.pair_line.new.self.at) ≡ pair_of (line_at wire_key c.args.reader.now.text.now loop.reader.at) = grind arith in
+    let line : Some (c.in_ok-a.a, c.in_ok-a.b, c.edge_line.new.reader.at) ≡ pair_of (line_at (edge_key c.args.form) c.args.reader.now.text.now loop.reader.at) = grind arith in
     let joined = sym c.joins.ensures ∙ c.if-not-joins.false in
     let (tail, head, apart) = ends sheet.vertices _ _ (omega arith) joined in
     record {
-      same = c.pair_line.ensures.text ∙ inv.same;
-      rest = edges_more c.args.reader.now.text.now sheet c.args.sheet.now.edges loop.k loop.reader.at c.loop-k-test.true _ _ _ line joined ∙ inv.rest;
+      same = c.edge_line.ensures.text ∙ inv.same;
+      rest = edges_more c.args.form c.args.reader.now.text.now sheet c.args.sheet.now.edges loop.k loop.reader.at c.loop-k-test.true _ _ _ line joined ∙ inv.rest;
       vertices = inv.vertices;
       edges = inv.edges;
       nexts = inv.nexts;
       kept = λ i h. let (t, d) = inv.kept i h in (get_or-set_other sheet.tails loop.k i _ 0 (λ e. omega arith) ∙ t, get_or-set_other sheet.heads loop.k i _ 0 (λ e. omega arith) ∙ d);
       degrees = omega arith;
-      apart = apart_more loop.k _ _ sheet.tails sheet.heads (omega arith) (omega arith) apart inv.apart;
+      joins = joining_more loop.k _ _ sheet.tails sheet.heads (omega arith) (omega arith) (tail, head, apart) inv.joins;
       counted = rw (c.count_end-in-loop-k.ensures, c.count_end.ensures) (counted_more loop.k _ _ sheet.tails sheet.heads loop.degrees (omega arith) (omega arith) tail head apart inv.degrees inv.counted);
     }

@@ -1,0 +1,11 @@
+pub mod Tests
+pub mod Places
+pub mod PutAlong
+pub mod Searching
+pub mod Climbing
+pub mod Growing
+pub mod Darts
+pub mod Choosing
+pub mod Choices
+pub mod Turns
+pub mod Bounds

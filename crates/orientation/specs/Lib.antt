@@ -1,0 +1,4 @@
+pub mod Links
+pub mod Ears
+pub mod Laws
+pub mod Inner
