@@ -5,6 +5,7 @@
 //! next-ends of a bar is the clockwise rotation at that vertex. The quoted sentences in the
 //! comments are those of the specification.
 
+pub mod directions;
 pub mod draw;
 pub mod edit;
 pub mod generate;
@@ -18,11 +19,12 @@ pub mod text;
 pub mod trace;
 pub mod write;
 
+pub use directions::{permitted, same_links};
 pub use draw::{draw, Drawing, EdgeSegment, VertexSegment};
 pub use edit::{apply, put_in, run, take_out_bar, take_out_wire, Edit};
 pub use levels::levels;
-pub use load::load;
-pub use plate::plate;
+pub use load::{load, load_links};
+pub use plate::{plate, plate_by};
 pub use read_edit::read_edit;
 pub use sheet::{Answer, Sheet, MAX_DARTS, MAX_EDGES, MAX_VERTICES};
 pub use sound::is_sound;

@@ -2,9 +2,9 @@
 
 use crate::draw::draw;
 use crate::edit::apply;
-use crate::load::load;
+use crate::load::{load, load_links};
 use crate::read_edit::read_edit;
-use crate::sheet::Sheet;
+use crate::sheet::{Answer, Sheet};
 use crate::write::{drawing_text, push_line};
 
 /// "More than 16,384 bytes: it prints `refused=18` only."
@@ -14,12 +14,18 @@ pub const MAX_INPUT: usize = 16_384;
 /// prints: "A refused load: its line `refused=` and number only. Else one such line for each
 /// refused edit, then the drawing".
 pub fn plate(input: &[u8]) -> Vec<u8> {
+    plate_by(input, load_links)
+}
+
+/// The same by a second load of the caller's: "Which choice it makes is free", so another's `plate`
+/// must print what this gives with that one's second load.
+pub fn plate_by(input: &[u8], links: impl Fn(&[u8], &Sheet) -> (Answer, Sheet, usize)) -> Vec<u8> {
     let mut output = Vec::new();
     if input.len() > MAX_INPUT {
         push_refusal(&mut output, 18);
         return output;
     }
-    let (answer, mut sheet, taken) = load(input, &Sheet::fresh());
+    let (answer, mut sheet, taken) = load_input(input, links);
     if let Err(refusal) = answer {
         push_refusal(&mut output, refusal);
         return output;
@@ -40,6 +46,21 @@ pub fn plate(input: &[u8]) -> Vec<u8> {
     let (_, drawing) = draw(&sheet);
     output.extend(drawing_text(&sheet, &drawing));
     output
+}
+
+/// The load of an input by the first load or the second: "`plate` uses it where the input's third line
+/// begins with `link=`." The third line is what follows the second byte 10, whatever stands before it,
+/// and it need not be whole.
+pub fn load_input(
+    input: &[u8],
+    links: impl Fn(&[u8], &Sheet) -> (Answer, Sheet, usize),
+) -> (Answer, Sheet, usize) {
+    let third = input.splitn(3, |&byte| byte == b'\n').nth(2);
+    if third.is_some_and(|rest| rest.starts_with(b"link=")) {
+        links(input, &Sheet::fresh())
+    } else {
+        load(input, &Sheet::fresh())
+    }
 }
 
 /// "its line `refused=` and number"

@@ -73,4 +73,19 @@ impl Sheet {
         }
         degrees
     }
+
+    /// The same sheet with some wires the other way, both ends at their places in the rings.
+    pub fn turned(&self, turn: impl Fn(usize) -> bool) -> Sheet {
+        let new_number = |dart: usize| if turn(dart / 2) { dart ^ 1 } else { dart };
+        let mut new = *self;
+        for k in 0..self.edges {
+            if turn(k) {
+                (new.tails[k], new.heads[k]) = (self.heads[k], self.tails[k]);
+            }
+        }
+        for dart in 0..2 * self.edges {
+            new.nexts[new_number(dart)] = new_number(self.next(dart)) as u16;
+        }
+        new
+    }
 }

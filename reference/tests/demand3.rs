@@ -1,15 +1,15 @@
-//! Lists of the five calls from the fresh sheet: whatever sheet they leave has a drawing without
-//! contact, with its rings in clockwise order, within the bounds. "touching, clockwise order and size
-//! are claimed of the longer bars" (C-12).
+//! Lists of the five calls from the fresh sheet, and of the second load of C-14: whatever sheet they
+//! leave has a drawing without contact, with its rings in clockwise order, within the bounds.
+//! "touching, clockwise order and size are claimed of the longer bars" (C-12).
 
 mod common;
 
 use common::{geometry, sheet_of, slow, P4};
 use reference::generate::{
-    any_edit, damaged, edits, extreme_sheets, grown, likely_edit, mixed_ends, sheet_text,
+    any_edit, any_links, damaged, edits, extreme_sheets, grown, likely_edit, mixed_ends, sheet_text,
 };
 use reference::generate::{sheets::random_counts, Random};
-use reference::{apply, draw, load, put_in, Answer, Drawing, Sheet};
+use reference::{apply, draw, load, load_links, put_in, Answer, Drawing, Sheet};
 
 fn drawn(sheet: &Sheet) -> Drawing {
     let (answer, drawing) = draw(sheet);
@@ -21,23 +21,34 @@ fn assert_drawing(sheet: &Sheet) {
     assert_eq!(geometry::check(sheet, &drawn(sheet)), Ok(()), "{sheet:?}");
 }
 
+/// A load of wires or of links, now and then with a text of the other kind.
+fn any_load(random: &mut Random, sheet: &Sheet, of_links: bool) -> (Answer, Sheet) {
+    let (vertices, edges) = (random.between(2, 9), random.between(9, 20));
+    let other = grown(random, vertices, edges);
+    let mut text = if of_links == random.one_in(8) {
+        let text = sheet_text(random, &other);
+        mixed_ends(random, &text)
+    } else {
+        any_links(random, &other)
+    };
+    match random.below(8) {
+        0 => text.clear(),
+        1..=4 => text = damaged(random, &text),
+        _ => {}
+    }
+    let load = if of_links { load_links } else { load };
+    let (answer, new, taken) = load(&text, sheet);
+    assert_eq!(taken > 0, answer.is_ok() && !text.is_empty());
+    assert!(!text.is_empty() || (answer, new) == (Ok(()), Sheet::fresh()));
+    (answer, new)
+}
+
 /// One call with any text or numbers; refused, it must return the sheet it got.
 fn random_call(random: &mut Random, sheet: &Sheet) -> (Answer, Sheet) {
     let (answer, new) = match random.below(20) {
         0 => {
-            let (vertices, edges) = (random.between(2, 9), random.between(9, 20));
-            let other = grown(random, vertices, edges);
-            let mut text = sheet_text(random, &other);
-            text = mixed_ends(random, &text);
-            match random.below(8) {
-                0 => text.clear(),
-                1..=4 => text = damaged(random, &text),
-                _ => {}
-            }
-            let (answer, new, taken) = load(&text, sheet);
-            assert_eq!(taken > 0, answer.is_ok() && !text.is_empty());
-            assert!(!text.is_empty() || (answer, new) == (Ok(()), Sheet::fresh()));
-            (answer, new)
+            let of_links = random.one_in(2);
+            any_load(random, sheet, of_links)
         }
         1..=3 => {
             let edit = any_edit(random, sheet);
@@ -77,6 +88,34 @@ fn lists_of_calls() {
         checked += 1;
     }
     assert!(checked > 2000 && accepted > 5000, "{checked} {accepted}");
+}
+
+/// "Lists of loads and edits may hold this load too."
+#[test]
+fn lists_with_links() {
+    let random = &mut Random::new(34);
+    let (mut accepted, mut refused) = (0, [0; 20]);
+    for _ in 0..500 {
+        let mut sheet = Sheet::fresh();
+        for _ in 0..random.below(20) {
+            if random.one_in(3) {
+                let (answer, new) = any_load(random, &sheet, true);
+                assert!(answer.is_ok() || new == sheet);
+                match answer {
+                    Ok(()) => accepted += 1,
+                    Err(number) => refused[usize::from(number)] += 1,
+                }
+                sheet = new;
+                assert_drawing(&sheet);
+            } else {
+                sheet = random_call(random, &sheet).1;
+            }
+        }
+        assert_drawing(&sheet);
+    }
+    assert!(accepted > 500, "{accepted}");
+    assert!([1, 5, 8, 19].iter().all(|&number| refused[number] > 10), "{refused:?}");
+    assert_eq!((refused[6], refused[7]), (0, 0));
 }
 
 #[test]

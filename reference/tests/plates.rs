@@ -111,7 +111,7 @@ fn counts_of_bars() {
 #[test]
 fn examples_folder() {
     let examples = examples();
-    assert_eq!(examples.len(), 17);
+    assert_eq!(examples.len(), 20);
     for (path, input, expected) in examples {
         assert_eq!(plate(&input), expected, "{}", path.display());
     }

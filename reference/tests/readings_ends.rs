@@ -110,7 +110,7 @@ fn a_sheet_with_mixed_ends_is_the_same_sheet() {
 fn every_example_in_both_line_ends() {
     let random = &mut Random::new(83);
     let examples = examples();
-    assert_eq!(examples.len(), 17);
+    assert_eq!(examples.len(), 20);
     for (path, input, expected) in examples {
         let input = String::from_utf8(input).expect("text").replace("\r\n", "\n");
         assert_eq!(plate(input.replace('\n', "\r\n").as_bytes()), expected, "{}", path.display());

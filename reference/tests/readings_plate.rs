@@ -128,7 +128,7 @@ fn refusals(words: &str) -> BTreeSet<u8> {
 fn every_refusal_number() {
     let wide = common::sheet_words(&parallel(256));
     let two = "bars=2 wires=2";
-    let cases: [(String, u8); 15] = [
+    let cases: [(String, u8); 16] = [
         ("bars=02".into(), 1),
         ("bars=129".into(), 2),
         (format!("{two} wire=0,2"), 3),
@@ -144,6 +144,7 @@ fn every_refusal_number() {
         (format!("{P4} run=3,5,2,2"), 14),
         (format!("{FRESH} out=1"), 15),
         (format!("{FRESH} off=1"), 16),
+        ("bars=3 wires=3 link=0,1 link=0,1 link=0,2 around=0,1,2 around=0,1 around=2".into(), 19),
     ];
     for (words, refusal) in cases {
         assert_eq!(refusals(&words), BTreeSet::from([refusal]), "{words}");

@@ -7,8 +7,9 @@ use std::io::Write;
 use std::process::{Command, Stdio};
 
 use reference::generate::{
-    edit_text, extreme_sheets, inputs::padded, random_sheet, refused_edit, refused_sheet,
-    sheet_text, special_inputs, truncations, Inputs, Random, Records,
+    edit_text, extreme_sheets, inputs::padded, random_sheet, refused_edit, refused_links,
+    refused_sheet, sheet_text, special_inputs, special_link_inputs, truncations, Inputs,
+    LinkInputs, LinkTexts, Random, Records,
 };
 use reference::{load, plate, read_edit, write_drawing, write_sheet, Sheet};
 
@@ -97,18 +98,42 @@ fn every_refusal_that_plate_can_print_occurs() {
     assert!(accepted > 1200, "{accepted}");
 }
 
+/// With links 6 and 7 can't come but 19 can.
+#[test]
+fn every_refusal_that_plate_can_print_for_links_occurs() {
+    let mut met = BTreeSet::new();
+    let (mut accepted, mut links) = (0, 0);
+    for input in LinkInputs::new(23).take(3000) {
+        let third = input.splitn(3, |&byte| byte == b'\n').nth(2).unwrap_or(b"");
+        if !third.starts_with(b"link=") {
+            continue;
+        }
+        links += 1;
+        let output = plate(&input);
+        met.extend(refusals(&output));
+        accepted += usize::from(output.windows(5).any(|window| window == b"rows="));
+    }
+    let expected: BTreeSet<u8> = (1..=5).chain([8]).chain(10..=16).chain([18, 19]).collect();
+    assert_eq!(met, expected);
+    assert!(links > 2400 && accepted > 1000, "{links} {accepted}");
+}
+
 #[test]
 fn the_generator_finds_each_refusal() {
     let random = &mut Random::new(20);
     let mut edits = BTreeSet::new();
     let mut sheets = BTreeSet::new();
+    let mut links: BTreeSet<u8> = BTreeSet::new();
     for _ in 0..200 {
         let sheet = random_sheet(random);
         edits.extend((10..=16).filter(|&number| refused_edit(random, &sheet, number).is_some()));
         sheets.extend((5..=8).filter(|&number| refused_sheet(random, &sheet, number).is_some()));
+        let found = |number: &u8| refused_links(random, &sheet, *number).is_some();
+        links.extend([5, 8, 19].into_iter().filter(found));
     }
     assert_eq!(edits, (10..=16).collect());
     assert_eq!(sheets, (5..=8).collect());
+    assert_eq!(links, [5, 8, 19].into());
 }
 
 #[test]
@@ -118,6 +143,11 @@ fn the_same_seed_gives_the_same_sequence() {
     assert!(inputs(1) == inputs(1) && inputs(1) != inputs(2));
     assert!(records(1) == records(1) && records(1) != records(2));
     assert!(special_inputs() == special_inputs());
+    let links = |seed| LinkInputs::new(seed).take(100).collect::<Vec<_>>();
+    let texts = |seed| LinkTexts::new(seed).take(100).collect::<Vec<_>>();
+    assert!(links(1) == links(1) && links(1) != links(2));
+    assert!(texts(1) == texts(1) && texts(1) != texts(2));
+    assert!(special_link_inputs() == special_link_inputs());
 }
 
 #[test]
@@ -125,7 +155,7 @@ fn special_inputs_have_the_sizes() {
     let sizes: BTreeSet<usize> = special_inputs().iter().map(Vec::len).collect();
     assert!([0, 1, 16_383, 16_384, 16_385].iter().all(|size| sizes.contains(size)));
     assert_eq!(padded(b"ab", b"cd", 5), b"abcdc");
-    for input in special_inputs() {
+    for input in special_inputs().into_iter().chain(special_link_inputs()) {
         let output = plate(&input);
         assert_eq!(output == b"refused=18\n", input.len() > 16_384);
     }
@@ -153,6 +183,7 @@ fn the_program_prints_what_plate_gives() {
     let mut inputs = special_inputs();
     inputs.truncate(12);
     inputs.extend(Inputs::new(22).take(40));
+    inputs.extend(LinkInputs::new(24).take(20));
     for input in inputs {
         let mut child = Command::new(env!("CARGO_BIN_EXE_plate-reference"))
             .stdin(Stdio::piped())

@@ -1,12 +1,14 @@
 //! Whole inputs of the program `plate`.
 
+use std::ops::RangeInclusive;
+
 use super::edits::{any_edit, edit_line, edit_text};
 use super::random::Random;
 use super::records::{directed_torus, from_rings, refused_sheet, torus};
 use super::sheets::{extreme_sheets, grown, parallel, random_sheet};
 use super::texts::{damaged, mixed_ends, sheet_text};
-use crate::load::load;
-use crate::plate::MAX_INPUT;
+use crate::load::load_links;
+use crate::plate::{load_input, MAX_INPUT};
 use crate::sheet::{Sheet, MAX_EDGES, MAX_VERTICES};
 
 /// An endless sequence of inputs: good ones, damaged ones, blank ones, and ones at the limits.
@@ -52,19 +54,24 @@ impl Inputs {
     /// A good input made longer, up to the limit or one byte more.
     fn long(&mut self) -> Vec<u8> {
         let sheet = self.sheet();
-        let mut text = sheet_text(&mut self.random, &sheet);
-        let size = MAX_INPUT + self.random.below(2);
-        let mut last = sheet;
-        while text.len() < size {
-            let (lines, next) = edit_text(&mut self.random, &last, 200);
-            text.extend(lines);
-            text.push(b'\n');
-            last = next;
-        }
-        text = mixed_ends(&mut self.random, &text);
-        text.truncate(size);
-        text
+        let text = sheet_text(&mut self.random, &sheet);
+        lengthened(&mut self.random, text, &sheet)
     }
+}
+
+/// The text that gives a sheet, with edit lines for it up to the limit of an input or one byte more.
+pub fn lengthened(random: &mut Random, mut text: Vec<u8>, sheet: &Sheet) -> Vec<u8> {
+    let size = MAX_INPUT + random.below(2);
+    let mut last = *sheet;
+    while text.len() < size {
+        let (lines, next) = edit_text(random, &last, 200);
+        text.extend(lines);
+        text.push(b'\n');
+        last = next;
+    }
+    text = mixed_ends(random, &text);
+    text.truncate(size);
+    text
 }
 
 impl Iterator for Inputs {
@@ -98,23 +105,28 @@ pub fn noise(random: &mut Random, length: usize) -> Vec<u8> {
 
 /// The sheets of every count of bars and of every count of wires, with some edit lines each.
 pub fn inputs_of_every_size(random: &mut Random) -> Vec<Vec<u8>> {
-    let by_vertices = (2..=MAX_VERTICES).map(|n| (n, n..=MAX_EDGES.min(3 * n)));
-    let by_edges = (2..=MAX_EDGES).map(|m| (MAX_VERTICES.min(m), m..=m));
-    let counts: Vec<_> = by_vertices.chain(by_edges).collect();
-    let mut input_of = |(n, edges): (usize, std::ops::RangeInclusive<usize>)| {
+    let mut inputs = Vec::new();
+    for (n, edges) in counts_of_every_size() {
         let edges = random.between(*edges.start(), *edges.end());
         let sheet = grown(random, n, edges);
         let mut input = sheet_text(random, &sheet);
         input.extend(edit_text(random, &sheet, 4).0);
-        mixed_ends(random, &input)
-    };
-    counts.into_iter().map(&mut input_of).collect()
+        inputs.push(mixed_ends(random, &input));
+    }
+    inputs
+}
+
+/// Every count of bars with a range of counts of wires, then every count of wires.
+pub fn counts_of_every_size() -> impl Iterator<Item = (usize, RangeInclusive<usize>)> {
+    let by_vertices = (2..=MAX_VERTICES).map(|n| (n, n..=MAX_EDGES.min(3 * n)));
+    let by_edges = (2..=MAX_EDGES).map(|m| (MAX_VERTICES.min(m), m..=m));
+    by_vertices.chain(by_edges)
 }
 
 /// An input near another one: damaged, cut, its edit lines in another order, more edit lines, other
 /// line ends, the sheet a second time, or longer up to the limit and two bytes over it.
 pub fn variation(random: &mut Random, input: &[u8]) -> Vec<u8> {
-    let (_, sheet, taken) = load(input, &Sheet::fresh());
+    let (_, sheet, taken) = load_input(input, load_links);
     let (front, rest) = input.split_at(taken);
     match random.below(20) {
         0 => input[..random.below(input.len() + 1)].to_vec(),

@@ -61,17 +61,11 @@ fn torus_with(forward: impl Fn(usize, usize) -> bool) -> Sheet {
 
 /// Wire k the other way, both ends at their places in the rings.
 pub fn reverse_edge(sheet: &Sheet, k: usize) -> Sheet {
-    let other = |dart: usize| if dart / 2 == k { dart ^ 1 } else { dart };
-    let mut new = *sheet;
-    (new.tails[k], new.heads[k]) = (sheet.heads[k], sheet.tails[k]);
-    for dart in 0..2 * sheet.edges {
-        new.nexts[other(dart)] = other(sheet.next(dart)) as u16;
-    }
-    new
+    sheet.turned(|j| j == k)
 }
 
 /// Two neighbours in a ring of three or more change places.
-fn swap_neighbours(random: &mut Random, sheet: &Sheet) -> Sheet {
+pub fn swap_neighbours(random: &mut Random, sheet: &Sheet) -> Sheet {
     let mut new = *sheet;
     let first = random.below(2 * sheet.edges);
     let second = sheet.next(first);

@@ -5,9 +5,21 @@ use crate::sheet::Sheet;
 
 /// The text of a sheet whose next-ends form rings, each ring from a random wire.
 pub fn sheet_text(random: &mut Random, sheet: &Sheet) -> Vec<u8> {
+    text_of(random, sheet, "wire")
+}
+
+/// The same as a text of links, with directions forgotten: each link names its two bars in either
+/// order, but link 0 its tail first.
+pub fn link_text(random: &mut Random, sheet: &Sheet) -> Vec<u8> {
+    let turned: Vec<bool> = (0..sheet.edges).map(|k| k > 0 && random.one_in(2)).collect();
+    text_of(random, &sheet.turned(|k| turned[k]), "link")
+}
+
+/// The text of a sheet with the given key for its wires.
+fn text_of(random: &mut Random, sheet: &Sheet, key: &str) -> Vec<u8> {
     let mut text = format!("bars={}\nwires={}\n", sheet.vertices, sheet.edges);
     for k in 0..sheet.edges {
-        text += &format!("wire={},{}\n", sheet.tails[k], sheet.heads[k]);
+        text += &format!("{key}={},{}\n", sheet.tails[k], sheet.heads[k]);
     }
     for v in 0..sheet.vertices {
         let wires = ring(random, sheet, v);

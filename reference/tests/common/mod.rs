@@ -3,11 +3,12 @@
 
 pub mod geometry;
 pub mod model;
+pub mod net;
 pub mod slow;
 
 use std::path::{Path, PathBuf};
 
-use reference::{load, plate, write_drawing, write_sheet, Answer, Sheet};
+use reference::{load, load_links, plate, write_drawing, write_sheet, Answer, Sheet};
 
 /// A text of the given words, each a line.
 pub fn lines(words: &str) -> Vec<u8> {
@@ -27,8 +28,20 @@ pub fn plate_words(words: &str) -> String {
     printed(&lines(words))
 }
 
+/// One of the two loads.
+type Load = fn(&[u8], &Sheet) -> (Answer, Sheet, usize);
+
 /// The sheet of a text that must be accepted, to its last byte.
 pub fn sheet_of(words: &str) -> Sheet {
+    loaded(load, words)
+}
+
+/// The same by the second load.
+pub fn links_of(words: &str) -> Sheet {
+    loaded(load_links, words)
+}
+
+fn loaded(load: Load, words: &str) -> Sheet {
     let text = lines(words);
     let (answer, sheet, taken) = load(&text, &Sheet::fresh());
     assert_eq!((answer, taken), (Ok(()), text.len()), "{words}");
@@ -37,6 +50,15 @@ pub fn sheet_of(words: &str) -> Sheet {
 
 /// The answer of load to a text; refused ones must hand back the present sheet and take nothing.
 pub fn load_answer(text: &[u8]) -> Answer {
+    answer_of(load, text)
+}
+
+/// The same of the second load.
+pub fn links_answer(text: &[u8]) -> Answer {
+    answer_of(load_links, text)
+}
+
+fn answer_of(load: Load, text: &[u8]) -> Answer {
     let mut present = Sheet::blank(77, usize::MAX);
     present.nexts[300] = 999;
     let (answer, sheet, taken) = load(text, &present);

@@ -41,13 +41,21 @@ fn one_ring(sheet: &Sheet, v: usize) -> bool {
 
 fn whole_sheet_rules(sheet: &Sheet) -> bool {
     let (n, m) = (sheet.vertices, sheet.edges);
-    let reach = reach(sheet);
-    let wires = || (0..m).map(|k| (sheet.tails[k] as usize, sheet.heads[k] as usize));
-    wires().next() == Some((0, 1))
-        && (0..n).all(|v| reach[v] & (1 << v) == 0)
-        && (0..n).all(|v| wires().any(|(_, head)| head == v) == (v != 0))
-        && (0..n).all(|v| wires().any(|(tail, _)| tail == v) == (v != 1))
+    (sheet.tails[0], sheet.heads[0]) == (0, 1)
+        && bipolar(sheet)
         && n as i64 - m as i64 + face_count(sheet) as i64 == 2
+}
+
+/// "the rules on circles and on bars 0 and 1"
+pub fn bipolar(sheet: &Sheet) -> bool {
+    let (n, m) = (sheet.vertices, sheet.edges);
+    let wires = || (0..m).map(|k| (sheet.tails[k] as usize, sheet.heads[k] as usize));
+    (0..n).all(|v| wires().any(|(_, head)| head == v) == (v != 0))
+        && (0..n).all(|v| wires().any(|(tail, _)| tail == v) == (v != 1))
+        && {
+            let reach = reach(sheet);
+            (0..n).all(|v| reach[v] & (1 << v) == 0)
+        }
 }
 
 /// For each bar the bars at the end of a directed path of one wire or more.
