@@ -1,39 +1,12 @@
 //! Time of the proved calls as a ratio to plain Rust and to the reference implementation, all in one run on the same inputs.
-//!
-//! A round makes each call on 64 different inputs; one input over and over would let the processor learn its branches. The
-//! inputs are timed in groups of 8, and a figure adds the least time of each group over many rounds, which leaves out what
-//! else the machine does. The sides take turns round by round.
 
 mod plain;
+mod timing;
 
 use reference::generate::{digraph, edit_line, edits, grown, likely_edit, mixed_ends, permutation, renumbered, sheet_text, sheets, Random};
 use reference::{Edit, Sheet};
 use std::hint::black_box;
-use std::time::Instant;
-
-const ROUNDS: usize = 150;
-const INPUTS: usize = 64;
-const GROUP: usize = 8;
-
-/// The least times of the groups of inputs so far, in nanoseconds.
-struct Least([f64; INPUTS / GROUP]);
-
-impl Least {
-    fn round<Input>(&mut self, inputs: &[Input], call: &mut dyn FnMut(&Input)) {
-        for (time, group) in self.0.iter_mut().zip(inputs.chunks(GROUP)) {
-            let start = Instant::now();
-            for input in group {
-                call(black_box(input));
-            }
-            *time = time.min(start.elapsed().as_nanos() as f64);
-        }
-    }
-
-    /// The time of a call.
-    fn of_a_call(&self) -> f64 {
-        self.0.iter().sum::<f64>() / INPUTS as f64
-    }
-}
+use timing::{several, times};
 
 /// The times of the three sides, round by round in turn, as a line of the table.
 fn compare<Input, P, Q, R>(
@@ -43,19 +16,12 @@ fn compare<Input, P, Q, R>(
     mut plain: impl FnMut(&Input) -> Q,
     mut reference: impl FnMut(&Input) -> R,
 ) {
-    assert_eq!(inputs.len(), INPUTS);
-    let mut least = [0; 3].map(|_| Least([f64::MAX; INPUTS / GROUP]));
-    let mut calls: [&mut dyn FnMut(&Input); 3] = [
+    let calls: [&mut dyn FnMut(&Input); 3] = [
         &mut |input| drop(black_box(proved(input))),
         &mut |input| drop(black_box(plain(input))),
         &mut |input| drop(black_box(reference(input))),
     ];
-    for _ in 0..ROUNDS {
-        for (least, call) in least.iter_mut().zip(&mut calls) {
-            least.round(inputs, *call);
-        }
-    }
-    let [ours, plain, reference] = least.map(|least| least.of_a_call());
+    let [ours, plain, reference] = times(150, inputs, calls);
     println!("| {what} | {ours:.0} ns | {plain:.0} ns | {:.2} | {:.2} |", ours / plain, ours / reference);
 }
 
@@ -149,10 +115,6 @@ fn compare_plate(random: &mut Random, sheets: &[Sheet], count: usize) {
         |input| plain::plate(input, b),
         |input| reference::plate(input),
     );
-}
-
-fn several<T>(mut make: impl FnMut() -> T) -> Vec<T> {
-    (0..INPUTS).map(|_| make()).collect()
 }
 
 fn main() {

@@ -27,6 +27,23 @@ static const char p4_in[] = "bars=5\nwires=7\nwire=0,1\nwire=0,4\nwire=2,1\nwire
 static const char p4_in_drawing[] = "rows=5\ncolumns=4\nbar=0,0,3\nbar=4,0,3\nbar=2,0,1\nbar=3,1,2\nbar=1,0,1\n"
                                     "wire=3,0,4\nwire=0,0,1\nwire=0,2,4\nwire=2,0,3\nwire=1,3,4\nwire=1,2,3\nwire=0,1,2\n";
 
+/* Links of which the directions are to be found; there is one choice, by hand: 0 to 2, 2 to 3 and to 4, 4 to 3, 3 to 1. */
+static const char links[] = "bars=5\nwires=6\nlink=0,1\nlink=2,0\nlink=3,2\nlink=2,4\nlink=3,4\nlink=1,3\n"
+                            "around=1,0\naround=0,5\naround=3,1,2\naround=2,5,4\naround=4,3\n";
+static const char links_sheet[] = "bars=5\nwires=6\nwire=0,1\nwire=0,2\nwire=2,3\nwire=2,4\nwire=4,3\nwire=3,1\n"
+                                  "around=0,1\naround=0,5\naround=1,2,3\naround=2,5,4\naround=3,4\n";
+
+/* The drawing of these links, as a record. */
+static const walnut_drawing links_drawing = {5,
+                                             3,
+                                             {{0, 0, 2}, {4, 0, 2}, {1, 0, 1}, {3, 0, 1}, {2, 1, 1}},
+                                             {{2, 0, 4}, {0, 0, 1}, {0, 1, 3}, {1, 1, 2}, {1, 2, 3}, {0, 3, 4}}};
+static const char links_output[] = "rows=5\ncolumns=3\nbar=0,0,2\nbar=4,0,2\nbar=1,0,1\nbar=3,0,1\nbar=2,1,1\n"
+                                   "wire=2,0,4\nwire=0,0,1\nwire=0,1,3\nwire=1,1,2\nwire=1,2,3\nwire=0,3,4\n";
+
+/* Three links, bar 2 on one of them: there is no choice. */
+static const char hanging[] = "bars=3\nwires=3\nlink=0,1\nlink=1,0\nlink=0,2\naround=0,1,2\naround=0,1\naround=2\n";
+
 /* Plate P5: the input and the output of the specification. */
 static const char p5[] = "bars=2\nwires=2\nwire=0,1\nwire=0,1\naround=0,1\naround=0,1\nin=1\nrun=0,1,2,2\n";
 static const char p5_output[] = "rows=3\ncolumns=3\nbar=0,0,2\nbar=2,0,2\nbar=1,0,1\n"
@@ -83,6 +100,34 @@ static void check_load(void) {
     check(load(&s, "in=1\n", &taken) == 1 && taken == 0 && same_sheet(&s, &loaded), "edit lines alone are refused 1");
     taken = 99;
     check(load(&s, "", &taken) == 0 && taken == 0 && same_sheet(&s, &fresh), "no bytes give the fresh sheet, 0 bytes taken");
+}
+
+static uint16_t load_links(walnut_sheet *s, const char *text, size_t *taken) {
+    return walnut_load_links(bytes(text), strlen(text), WALNUT_CHANGE(s), taken);
+}
+
+static void check_load_links(void) {
+    static const uint16_t tails[6] = {0, 0, 2, 2, 4, 3}, heads[6] = {1, 2, 3, 4, 3, 1};
+    walnut_sheet s = WALNUT_FRESH_SHEET, fresh = WALNUT_FRESH_SHEET, other;
+    size_t taken = 99, count;
+    check(load_links(&s, hanging, &taken) == 19 && taken == 0 && same_sheet(&s, &fresh), "a bar on one link is refused 19, and the parts are kept");
+    check(load_links(&s, p4, &taken) == 1 && taken == 0 && same_sheet(&s, &fresh), "lines of wires are refused 1");
+    check(load(&s, links, &taken) == 1 && taken == 0 && same_sheet(&s, &fresh), "the other load refuses links 1");
+    check(load_links(&s, "bars=2\nwires=2\nlink=1,0\nlink=0,1\naround=0,1\naround=0,1\n", &taken) == 5 && same_sheet(&s, &fresh),
+          "link=1,0 as link 0 is refused 5");
+    check(load_links(&s, "bars=2\nwires=3\nlink=0,1\nlink=0,1\nlink=1,0\naround=0,1,2\naround=0,1,2\n", &taken) == 8 && same_sheet(&s, &fresh),
+          "links with one face are refused 8");
+    check(load_links(&s, links, &taken) == 0 && taken == strlen(links), "the links load, to their last byte");
+    check(s.bars == 5 && s.wires == 6 && memcmp(s.tails, tails, sizeof tails) == 0 && memcmp(s.heads, heads, sizeof heads) == 0,
+          "each wire has its direction");
+    check(walnut_is_sound(WALNUT_READ(&s)), "the sheet is sound");
+    memset(buffer, '#', sizeof buffer);
+    uint16_t answer = walnut_write_sheet(WALNUT_READ(&s), buffer, WALNUT_TEXT, &count);
+    check(holds_text(answer, count, links_sheet), "it is written out with lines of wires");
+    check(load(&other, links_sheet, &taken) == 0 && same_sheet(&other, &s), "which load as the same sheet");
+    check(load_links(&s, hanging, &taken) == 19 && taken == 0 && same_sheet(&s, &other), "refused, the parts keep that sheet");
+    taken = 99;
+    check(load_links(&s, "", &taken) == 0 && taken == 0 && same_sheet(&s, &fresh), "no bytes of links give the fresh sheet, 0 bytes taken");
 }
 
 static void check_writers(void) {
@@ -164,6 +209,17 @@ static void check_replay(void) {
     check(same_drawing(&d, &p5_drawing), "after a blank load the edits of P5 give the drawing of P5");
     check(memcmp(answers, blank_answers, sizeof blank_answers) == 0, "a blank load is accepted with 0 bytes taken");
 
+    /* A load of links, and then what is refused: a load of links without a choice, a load of links by the other load, and a kind
+     * that there is not. */
+    char both[sizeof links + sizeof hanging];
+    size_t both_length = (size_t)snprintf(both, sizeof both, "%s%s", links, hanging);
+    const size_t links_calls[] = {WALNUT_LOAD_LINKS, 0, strlen(links), 0, 0, WALNUT_LOAD_LINKS, strlen(links), SIZE_MAX, 0, 0,
+                                  WALNUT_LOAD, 0, strlen(links), 0, 0, WALNUT_UNREADABLE, 0, strlen(links), 0, 0};
+    const size_t links_answers[8] = {0, strlen(links), 19, 0, 1, 0, 10, 0};
+    d = walnut_replay(links_calls, sizeof links_calls / sizeof *links_calls, bytes(both), both_length, answers, 8);
+    check(same_drawing(&d, &links_drawing), "a load of links in a list gives their drawing, which refused loads leave");
+    check(memcmp(answers, links_answers, sizeof links_answers) == 0, "links are taken, refused 19, refused 1 by the other load, and 10 by kind 5");
+
     const size_t p4_in_calls[] = {WALNUT_LOAD, 0, strlen(p4), 0, 0, WALNUT_IN, 1, 0, 0, 0};
     d = walnut_replay(p4_in_calls, 10, bytes(text), length, answers, 0);
     check(d.bars[4].row == 1 && d.bars[4].first == 0 && d.bars[4].last == 1, "bar 4 of P4 after in=1 goes up to its right neighbour");
@@ -180,6 +236,12 @@ static void check_plate(void) {
     answer = walnut_plate(bytes("bars=1\n"), 7, buffer, sizeof buffer, &count);
     check(holds_text(answer, count, "refused=2\n"), "plate prints the refusal of bars=1");
     memset(buffer, '#', sizeof buffer);
+    answer = walnut_plate(bytes(links), strlen(links), buffer, sizeof buffer, &count);
+    check(holds_text(answer, count, links_output), "plate prints the drawing of links");
+    memset(buffer, '#', sizeof buffer);
+    answer = walnut_plate(bytes(hanging), strlen(hanging), buffer, sizeof buffer, &count);
+    check(holds_text(answer, count, "refused=19\n"), "plate prints the refusal of links without a choice");
+    memset(buffer, '#', sizeof buffer);
     answer = walnut_plate(bytes(""), 0, buffer, sizeof buffer, &count);
     check(holds_text(answer, count, "rows=2\ncolumns=2\nbar=0,0,1\nbar=1,0,1\nwire=1,0,1\nwire=0,0,1\n"),
           "plate prints the drawing of the fresh sheet for an input of no bytes");
@@ -195,6 +257,7 @@ static void check_graphs(void) {
 
 int main(void) {
     check_load();
+    check_load_links();
     check_writers();
     check_edits();
     check_read_edit();

@@ -41,6 +41,16 @@ mod calls {
             nexts: &mut [u16; 512],
             taken: &mut usize,
         ) -> u16;
+        pub fn walnut_load_links(
+            text: *const u8,
+            length: usize,
+            vertices: &mut usize,
+            edges: &mut usize,
+            tails: &mut [u16; 256],
+            heads: &mut [u16; 256],
+            nexts: &mut [u16; 512],
+            taken: &mut usize,
+        ) -> u16;
         pub fn walnut_write_sheet(
             vertices: usize,
             edges: usize,
@@ -121,11 +131,23 @@ pub fn is_sound(sheet: &Sheet) -> bool {
     }
 }
 
-/// Load: the answer's number (0 for acceptance), the sheet returned, and the bytes taken.
-pub fn load(text: &[u8], present: &Sheet) -> (u16, Sheet, usize) {
+/// A load under its C name.
+type Loader = unsafe extern "C" fn(
+    *const u8,
+    usize,
+    &mut usize,
+    &mut usize,
+    &mut [u16; 256],
+    &mut [u16; 256],
+    &mut [u16; 512],
+    &mut usize,
+) -> u16;
+
+/// The answer's number of a load (0 for acceptance), the sheet returned, and the bytes taken.
+fn load_by(loader: Loader, text: &[u8], present: &Sheet) -> (u16, Sheet, usize) {
     let (mut sheet, mut taken) = (*present, 0);
     let number = unsafe {
-        calls::walnut_load(
+        loader(
             text.as_ptr(),
             text.len(),
             &mut sheet.vertices,
@@ -137,6 +159,16 @@ pub fn load(text: &[u8], present: &Sheet) -> (u16, Sheet, usize) {
         )
     };
     (number, sheet, taken)
+}
+
+/// Load.
+pub fn load(text: &[u8], present: &Sheet) -> (u16, Sheet, usize) {
+    load_by(calls::walnut_load, text, present)
+}
+
+/// The load of links.
+pub fn load_links(text: &[u8], present: &Sheet) -> (u16, Sheet, usize) {
+    load_by(calls::walnut_load_links, text, present)
 }
 
 /// A writer under its C name.

@@ -1,6 +1,10 @@
-//! Lists of loads and edits, and the drawing after them, compared with the reference.
+//! Lists of loads and edits, and the drawing after them, compared with the reference. After a load of links the reference
+//! goes on from the sheet of the proved one, which it permits.
+
+mod common;
 
 use reference::generate::edits::{any_edit, likely_edit, refused_edit};
+use reference::generate::links::any_links;
 use reference::generate::records::Records;
 use reference::generate::sheets::{extreme_sheets, random_sheet};
 use reference::generate::texts::{damaged, mixed_ends, sheet_text};
@@ -27,10 +31,19 @@ fn same_drawing(sheet: &Sheet, room: usize) -> u16 {
     number
 }
 
+/// The text as it is, damaged, or no bytes.
+fn any_text(random: &mut Random, text: Vec<u8>) -> Vec<u8> {
+    match random.below(8) {
+        0 => Vec::new(),
+        1..=4 => damaged(random, &text),
+        _ => text,
+    }
+}
+
 #[test]
 fn lists_of_loads_and_edits_agree() {
     let random = &mut Random::new(41);
-    let (mut seen, mut blank) = ([0usize; 19], 0);
+    let (mut seen, mut blank, mut links) = ([0usize; 20], [0; 2], [0usize; 20]);
     for list in 0..600 {
         let mut sheet = if list % 3 == 0 { Sheet::fresh() } else { random_sheet(random) };
         for step in 0..80 {
@@ -39,17 +52,24 @@ fn lists_of_loads_and_edits_agree() {
                     let loaded = random_sheet(random);
                     let text = sheet_text(random, &loaded);
                     let text = mixed_ends(random, &text);
-                    let text = match random.below(8) {
-                        0 => Vec::new(),
-                        1..=4 => damaged(random, &text),
-                        _ => text,
-                    };
-                    blank += usize::from(text.is_empty());
+                    let text = any_text(random, text);
+                    blank[0] += usize::from(text.is_empty());
                     let (answer, expected, taken) = reference::load(&text, &sheet);
                     let ours = proved::load(&text, &sheet);
                     assert!(ours == (answer.map_or_else(u16::from, |()| 0), expected, taken), "load in list {list}");
                     sheet = ours.1;
                     ours.0
+                }
+                1 => {
+                    let loaded = random_sheet(random);
+                    let text = any_links(random, &loaded);
+                    let text = any_text(random, text);
+                    blank[1] += usize::from(text.is_empty());
+                    let (answer, after, _) = common::load_links(&text, &sheet);
+                    let number = answer.map_or_else(u16::from, |()| 0);
+                    links[usize::from(number)] += 1;
+                    sheet = after;
+                    number
                 }
                 n => {
                     let edit = if n < 12 { likely_edit(random, &sheet) } else { any_edit(random, &sheet) };
@@ -64,7 +84,8 @@ fn lists_of_loads_and_edits_agree() {
             }
         }
     }
-    assert!(seen[0] > 10_000 && blank > 100, "{seen:?} {blank}");
+    assert!(seen[0] > 10_000 && blank.iter().all(|&blank| blank > 100), "{seen:?} {blank:?}");
+    assert!(links[0] > blank[1] + 500 && links[1] > 200 && links[5] > 20 && links[8] > 20 && links[19] > 20, "{links:?}");
     for number in [10, 11, 12, 13, 14, 15, 16] {
         assert!(seen[number] > 50, "refusal {number}: {seen:?}");
     }

@@ -1,8 +1,18 @@
 //! `plate` as a function from bytes to bytes against the reference; the whole buffer is compared, what lies past the
-//! output included.
+//! output included. After links the reference goes on from the sheet of the proved load of links, so that all of an output
+//! fits one choice of directions.
+
+mod common;
 
 use proved::LONGEST_OUTPUT;
-use reference::generate::{inputs_of_every_size, special_inputs, variation, Inputs, Random};
+use reference::generate::{
+    inputs_of_every_size, link_inputs_of_every_size, special_inputs, special_link_inputs, variation, Inputs, LinkInputs, Random,
+};
+
+/// What `plate` is to print for an input.
+fn expected_of(input: &[u8]) -> Vec<u8> {
+    reference::plate_by(input, common::load_links)
+}
 
 /// A buffer of other bytes, lent again and again.
 struct Lent {
@@ -18,7 +28,7 @@ impl Lent {
 
     /// Compares one call with a buffer of `room` bytes, which is long enough; tells the output.
     fn same_output(&mut self, input: &[u8], room: usize) -> Vec<u8> {
-        let expected = reference::plate(input);
+        let expected = expected_of(input);
         let answer = proved::plate(input, &mut self.buffer[..room]);
         assert_eq!(answer, (0, expected.len()), "{:?}", String::from_utf8_lossy(input));
         let (front, rest) = self.buffer.split_at_mut(expected.len());
@@ -38,8 +48,8 @@ impl Lent {
 /// Counts of outputs by the number of their first refusal, 0 for none, and of the refusals in them.
 #[derive(Default)]
 struct Seen {
-    first: [usize; 19],
-    all: [usize; 19],
+    first: [usize; 20],
+    all: [usize; 20],
 }
 
 impl Seen {
@@ -74,6 +84,25 @@ fn plate_agrees_on_a_hundred_thousand_inputs() {
 }
 
 #[test]
+fn plate_agrees_on_thirty_thousand_inputs_of_links() {
+    let random = &mut Random::new(56);
+    let (mut lent, mut seen) = (Lent::new(), Seen::default());
+    for input in LinkInputs::new(57).take(3_000) {
+        seen.count(&lent.same_output(&input, LONGEST_OUTPUT));
+        for _ in 0..9 {
+            seen.count(&lent.same_output(&variation(random, &input), LONGEST_OUTPUT));
+        }
+    }
+    assert_eq!(seen.first.iter().sum::<usize>(), 30_000);
+    for number in [0, 1, 2, 3, 4, 5, 8, 18, 19] {
+        assert!(seen.first[number] > 60, "first refusal {number}: {:?}", seen.first);
+    }
+    for number in 10..=16 {
+        assert!(seen.all[number] > 1_000, "refusal {number}: {:?}", seen.all);
+    }
+}
+
+#[test]
 fn plate_agrees_on_special_inputs_and_every_size() {
     let mut lent = Lent::new();
     let mut longest = 0;
@@ -89,11 +118,28 @@ fn plate_agrees_on_special_inputs_and_every_size() {
 }
 
 #[test]
+fn plate_agrees_on_special_inputs_of_links_and_every_size() {
+    let (mut lent, mut seen) = (Lent::new(), Seen::default());
+    for input in special_link_inputs() {
+        seen.count(&lent.same_output(&input, LONGEST_OUTPUT));
+    }
+    for number in [0, 1, 2, 8, 18, 19] {
+        assert!(seen.first[number] > 1, "first refusal {number}: {:?}", seen.first);
+    }
+    let inputs = link_inputs_of_every_size(&mut Random::new(58));
+    assert_eq!(inputs.len(), 127 + 255);
+    for input in inputs {
+        assert!(lent.same_output(&input, LONGEST_OUTPUT + 100).len() > 50);
+    }
+}
+
+#[test]
 fn plate_refuses_buffers_shorter_than_the_longest_output() {
     let random = &mut Random::new(54);
     let mut lent = Lent::new();
-    for input in Inputs::new(55).take(300).chain(special_inputs()) {
-        let length = reference::plate(&input).len();
+    let links = LinkInputs::new(59).take(300).chain(special_link_inputs());
+    for input in Inputs::new(55).take(300).chain(special_inputs()).chain(links) {
+        let length = expected_of(&input).len();
         for room in [0, 1, length - 1, random.below(length)] {
             lent.refuses(&input, room);
         }

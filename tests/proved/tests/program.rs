@@ -1,7 +1,12 @@
 //! The program `plate` itself, run as a process, against the outputs in examples/ and against the reference, byte for
-//! byte. The program is crates/plate/out/plate of the repository, or the file that the environment names in PLATE.
+//! byte. The program is crates/plate/out/plate of the repository, or the file that the environment names in PLATE. After
+//! links the reference goes on from the sheet of the proved load of links.
 
-use reference::generate::{inputs_of_every_size, mixed_ends, special_inputs, variation, Inputs, Random};
+mod common;
+
+use reference::generate::{
+    inputs_of_every_size, link_inputs_of_every_size, mixed_ends, special_inputs, special_link_inputs, variation, Inputs, LinkInputs, Random,
+};
 use std::fs::{self, File};
 use std::io::{ErrorKind, Write};
 use std::path::{Path, PathBuf};
@@ -41,9 +46,14 @@ fn run(input: &[u8]) -> Vec<u8> {
     printed(child.wait_with_output().expect("it ends"), input)
 }
 
+/// What the reference prints for an input.
+fn expected_of(input: &[u8]) -> Vec<u8> {
+    reference::plate_by(input, common::load_links)
+}
+
 fn same_as_reference(input: &[u8]) -> Vec<u8> {
     let output = run(input);
-    assert!(output == reference::plate(input), "for {:?}", String::from_utf8_lossy(input));
+    assert!(output == expected_of(input), "for {:?}", String::from_utf8_lossy(input));
     output
 }
 
@@ -59,7 +69,7 @@ fn examples() -> Vec<(PathBuf, Vec<u8>, Vec<u8>)> {
 #[test]
 fn examples_give_their_outputs() {
     let examples = examples();
-    assert_eq!(examples.len(), 17);
+    assert_eq!(examples.len(), 20);
     for (path, input, expected) in examples {
         let shown = |bytes: &[u8]| String::from_utf8_lossy(bytes).into_owned();
         assert_eq!(shown(&run(&input)), shown(&expected), "{}", path.display());
@@ -96,10 +106,19 @@ fn the_program_agrees_on_special_inputs_and_every_size() {
 }
 
 #[test]
-fn the_program_agrees_on_three_thousand_inputs() {
-    let random = &mut Random::new(62);
+fn the_program_agrees_on_special_inputs_of_links_and_every_size() {
+    let refused = special_link_inputs().iter().filter(|input| same_as_reference(input).starts_with(b"refused=")).count();
+    assert!(refused > 200, "{refused}");
+    for input in link_inputs_of_every_size(&mut Random::new(67)) {
+        assert!(same_as_reference(&input).len() > 50);
+    }
+}
+
+/// Runs the program on each input and on variations of it, 3,000 in all: it prints a drawing alone, a refusal of the input
+/// alone, and both a drawing and refusals, each many times.
+fn same_on_three_thousand(random: &mut Random, inputs: impl Iterator<Item = Vec<u8>>) {
     let (mut drawn, mut refused, mut both) = (0, 0, 0);
-    for input in Inputs::new(63).take(600) {
+    for input in inputs.take(600) {
         let mut inputs: Vec<Vec<u8>> = (0..4).map(|_| variation(random, &input)).collect();
         inputs.push(input);
         for input in inputs {
@@ -117,9 +136,19 @@ fn the_program_agrees_on_three_thousand_inputs() {
 }
 
 #[test]
+fn the_program_agrees_on_three_thousand_inputs() {
+    same_on_three_thousand(&mut Random::new(62), Inputs::new(63));
+}
+
+#[test]
+fn the_program_agrees_on_three_thousand_inputs_of_links() {
+    same_on_three_thousand(&mut Random::new(68), LinkInputs::new(69));
+}
+
+#[test]
 fn the_program_reads_input_that_comes_in_pieces() {
     let random = &mut Random::new(64);
-    for input in Inputs::new(65).take(60) {
+    for input in Inputs::new(65).take(60).chain(LinkInputs::new(70).take(60)) {
         let mut child = start(Stdio::piped());
         let (first, second) = (random.below(input.len() + 1), random.below(input.len() + 1));
         let places = [0, first.min(second), first.max(second), input.len()];
@@ -128,7 +157,7 @@ fn the_program_reads_input_that_comes_in_pieces() {
             std::thread::sleep(Duration::from_millis(2));
         }
         let output = printed(child.wait_with_output().expect("it ends"), &input);
-        assert!(output == reference::plate(&input), "for {:?}", String::from_utf8_lossy(&input));
+        assert!(output == expected_of(&input), "for {:?}", String::from_utf8_lossy(&input));
     }
 }
 
