@@ -7,7 +7,7 @@ use Rattle.clauses.specs.Darts.{End}
 use Rattle.clauses.specs.declared.Sheet.{Sheet}
 use Rattle.sheet.specs.Darts.{next, dart_at}
 use Rattle.sheet.specs.Sound.{Joins}
-use Rattle.soundness.proofs.Darts.{dart, by_dart, same_parts}
+use Rattle.sheet.proofs.Darts.{dart, by_dart, same_parts}
 use Rattle.roundtrip.proofs.Around.{Around}
 use Rattle.roundtrip.proofs.Laid.{Laid, cyclic, cyclic_entry}
 use Rattle.acceptance.specs.Loading.{ItsWires, After, Describes}

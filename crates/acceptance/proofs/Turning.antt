@@ -6,7 +6,7 @@ use Rattle.clauses.specs.Darts.{opposite}
 use Rattle.clauses.specs.declared.Sheet.{Sheet}
 use Rattle.sheet.specs.Darts.{darts, vertex, next, walk, touches, dart_at}
 use Rattle.sheet.specs.Sound.{Joins, Ring, Euler}
-use Rattle.soundness.proofs.Darts.{dart, edge_below, dart_edge, dart_opposite, each_dart, opposite_below}
+use Rattle.sheet.proofs.Darts.{dart, edge_below, dart_edge, dart_opposite, each_dart, opposite_below}
 use Rattle.soundness.proofs.Ends.{EndAt, at_edge, at_end, touches_says, end_touches, end_at_law}
 use Rattle.soundness.proofs.Rings.{vertex_below, rings_rotation}
 use Rattle.soundness.proofs.Faces.{walk_perm}

@@ -22,7 +22,7 @@ use Rattle.soundness.proofs.Tests.{Says, le_says, eq_says, not_says, or_says, an
 use Rattle.soundness.proofs.Law.{sound_law, rotation_of, was_sound}
 use Rattle.soundness.proofs.Faces.{walk_perm}
 use Rattle.soundness.proofs.Columns.{column_law}
-use Rattle.soundness.proofs.Darts.{dart_vertex, opposite_below}
+use Rattle.sheet.proofs.Darts.{dart_vertex, opposite_below}
 use Rattle.soundness.proofs.Ends.{EndAt, at_below, end_touches, end_at_law}
 use Rattle.edit.specs.Calls.{put_in_answer, run_answer, take_out_edge_answer, take_out_vertex_answer, corner_face, out_degree, in_degree, no_vertex, no_edge}
 use Rattle.preservation.proofs.Degrees.{another, only_one}

@@ -13,7 +13,7 @@ use Rattle.sheet.specs.Darts.{tail, darts, vertex, next, touches}
 use Rattle.sheet.specs.Sound.{Sound}
 use Rattle.sheet.specs.Check.{face, column}
 use Rattle.soundness.specs.Maps.{map_of}
-use Rattle.soundness.proofs.Darts.{edge_below, dart_vertex}
+use Rattle.sheet.proofs.Darts.{edge_below, dart_vertex}
 use Rattle.soundness.proofs.Plane.{plane_of}
 use Rattle.soundness.proofs.Columns.{column_law}
 use Rattle.drawing.specs.Draw.{edge_column, right_column, first_column, last_column}

@@ -14,7 +14,7 @@ use Rattle.sheet.specs.Darts.{vertex}
 use Rattle.sheet.specs.Sound.{Sound}
 use Rattle.sheet.specs.Check.{row, column}
 use Rattle.soundness.specs.Maps.{map_of}
-use Rattle.soundness.proofs.Darts.{dart, dart_kind, dart_below, dart_opposite, dart_vertex}
+use Rattle.sheet.proofs.Darts.{dart, dart_kind, dart_below, dart_opposite, dart_vertex}
 use Rattle.soundness.proofs.Plane.{plane_of}
 use Rattle.drawing.specs.declared.Drawing.{Drawing}
 use Rattle.drawing.specs.Draw.{edge_column, first_column, last_column, vertex_segment, edge_segment, drawing_of}

@@ -9,7 +9,7 @@ use Rattle.clauses.specs.Darts.{tail_dart, head_dart}
 use Rattle.sheet.specs.Darts.{head}
 use Rattle.sheet.specs.Sound.{Sound}
 use Rattle.sheet.specs.Check.{face, face_count}
-use Rattle.soundness.proofs.Darts.{dart_below}
+use Rattle.sheet.proofs.Darts.{dart_below}
 use Rattle.soundness.proofs.Plane.{plane_of}
 use Rattle.soundness.proofs.Rows.{row_law}
 use Rattle.soundness.proofs.Columns.{column_law}

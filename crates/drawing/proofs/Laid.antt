@@ -10,7 +10,7 @@ use Rattle.sheet.specs.Darts.{tail, head}
 use Rattle.sheet.specs.Sound.{Sound, Faces}
 use Rattle.sheet.specs.Levels.{Column, left_face}
 use Rattle.sheet.specs.Check.{face}
-use Rattle.soundness.proofs.Darts.{dart_below}
+use Rattle.sheet.proofs.Darts.{dart_below}
 use Rattle.soundness.proofs.Tests.{lt_says}
 use Rattle.soundness.proofs.Rows.{row_law}
 use Rattle.soundness.proofs.Columns.{column_law}

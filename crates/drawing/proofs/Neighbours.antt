@@ -5,7 +5,7 @@ use Rattle.planarmap.proofs.Neighbours.{neighbour}
 use Rattle.clauses.specs.Darts.{opposite}
 use Rattle.sheet.specs.Darts.{vertex}
 use Rattle.sheet.specs.Check.{row, face, column}
-use Rattle.soundness.proofs.Darts.{dart, dart_is, edge_below}
+use Rattle.sheet.proofs.Darts.{dart, dart_is, edge_below}
 use Rattle.soundness.proofs.Plane.{plane_of}
 use Rattle.drawing.specs.Draw.{edge_column, last_column}
 use Rattle.drawing.specs.Laid.{NeighbourLaw}

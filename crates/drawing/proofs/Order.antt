@@ -23,7 +23,7 @@ use Rattle.sheet.specs.Check.{column}
 use Rattle.soundness.specs.Maps.{map_of}
 use Rattle.soundness.proofs.Law.{rotation_of}
 use Rattle.soundness.proofs.Plane.{plane_of}
-use Rattle.soundness.proofs.Darts.{edge_below}
+use Rattle.sheet.proofs.Darts.{edge_below}
 use Rattle.drawing.specs.Draw.{drawing_of}
 use Rattle.drawing.specs.Clear.{Cycle, dart_column, Clockwise}
 use Rattle.drawing.proofs.Segments.{edge_stands, column_at, some_dart, laws}

@@ -9,7 +9,7 @@ use Rattle.sheet.specs.Darts.{darts}
 use Rattle.sheet.specs.Sound.{Sound, Faces}
 use Rattle.sheet.specs.Levels.{FaceLeads, Column}
 use Rattle.sheet.specs.Levels.FaceLeads.{across, root}
-use Rattle.soundness.proofs.Darts.{dart_below}
+use Rattle.sheet.proofs.Darts.{dart_below}
 use Rattle.soundness.proofs.Faces.{walk_perm}
 use Rattle.soundness.proofs.Law.{rotation_of}
 

@@ -18,7 +18,7 @@ use Rattle.sheet.specs.Check.{row, face, column}
 use Rattle.soundness.specs.Maps.{map_of}
 use Rattle.counting.proofs.Below.{get_d_tabulated}
 use Rattle.soundness.proofs.Tests.{lt_says}
-use Rattle.soundness.proofs.Darts.{dart, dart_is, dart_kind, dart_opposite, edge_below}
+use Rattle.sheet.proofs.Darts.{dart, dart_is, dart_kind, dart_opposite, edge_below}
 use Rattle.soundness.proofs.Plane.{plane_of}
 use Rattle.soundness.proofs.Columns.{columns_of}
 use Rattle.soundness.proofs.Ends.{at_edge, at_end, end_touches, touched}

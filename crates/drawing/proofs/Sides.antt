@@ -12,7 +12,7 @@ use Rattle.sheet.specs.Sound.{Sound, Faces}
 use Rattle.sheet.specs.Levels.{Column, right_face}
 use Rattle.sheet.specs.Check.{face, column}
 use Rattle.soundness.specs.Maps.{map_of}
-use Rattle.soundness.proofs.Darts.{dart, dart_kind, dart_edge, dart_below, dart_vertex, edge_below}
+use Rattle.sheet.proofs.Darts.{dart, dart_kind, dart_edge, dart_below, dart_vertex, edge_below}
 use Rattle.soundness.proofs.Plane.{plane_of}
 use Rattle.soundness.proofs.Columns.{column_law}
 use Rattle.drawing.specs.declared.Drawing.{Drawing}

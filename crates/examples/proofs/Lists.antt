@@ -9,7 +9,7 @@ use Rattle.sheet.specs.Fresh.{fresh_sheet}
 use Rattle.soundness.proofs.Clauses.{limits_law, joined_law}
 use Rattle.soundness.proofs.Rings.{rings_law, rings_rotation}
 use Rattle.soundness.proofs.Faces.{faces_numbered}
-use Rattle.soundness.proofs.Darts.{same_parts}
+use Rattle.sheet.proofs.Darts.{same_parts}
 use Rattle.program.specs.Program.{input_form, plate_output}
 use Rattle.examples.specs.Described.{described}
 use Rattle.examples.specs.Plates.{Remark, Plate, same, same_sheet, as_remarked, all_printed}

@@ -1,59 +1,38 @@
 -- The darts of a sheet, two of each link: their vertices, the lowest that passes a test, and what a sweep over them makes. Assumes nothing.
-use Rattle.std.proofs.Common.{◌≡◌, refl, sym, ap, ◌∙◌, ℕ, zero, suc, ◌+◌, ◌-◌, ◌*◌, ◌/◌, ◌%◌, ◌<◌, Bool, true, false, cond, List, Some, None, add-one, arith, eqb, get_or, eq-eqb, ne_eqb, lt-ltb, le-ltb}
-use Rattle.std.proofs.Math.Logic.{by_cases}
+use Rattle.std.proofs.Common.{◌≡◌, refl, ap, subst, ◌∙◌, ℕ, zero, suc, ◌+◌, ◌*◌, ◌/◌, ◌<◌, Bool, true, false, cond, List, Some, None, add-one, arith, eqb, eq-eqb, ne_eqb, lt-ltb, le-ltb}
 use Rattle.std.proofs.Math.Decide.{ℕ_discrete}
 use Rattle.counting.specs.Below.{lowest_below}
-use Rattle.clauses.specs.Darts.{opposite}
+use Rattle.clauses.specs.Darts.{is_tail, opposite}
 use Rattle.clauses.specs.declared.Sheet.{Sheet}
 use Rattle.sheet.specs.Darts.{tail, head, vertex}
+use Rattle.sheet.proofs.Darts.{dart, dart_is, dart_opposite, dart_vertex, edge_below}
 use Rattle.digraph.specs.Inner.{Ends}
 use Rattle.orientation.specs.Inner.{dart_ends}
 use Rattle.orientation.specs.Ears.{graph_of, entry, relax, sweep, exit, enters, exits, relaxed}
 
 -- ---- the vertices of a dart
 
--- dart d leads from the tail of its link, or from its head
-module _ (s : Sheet) (d : ℕ) where
-  from_tail : d % 2 ≡ 0 → get_or s.tails (d / 2) 0 ≡ vertex s d
-  unfolding vertex
-  from_tail e = rw (eq-eqb (d % 2) 0 e) refl
-
-  from_head : (d % 2 ≡ 0 → ⊥) → get_or s.heads (d / 2) 0 ≡ vertex s d
-  unfolding vertex
-  from_head n = rw (ne_eqb (d % 2) 0 n) refl
-
-  to_head : d % 2 ≡ 0 → get_or s.heads (d / 2) 0 ≡ vertex s (opposite d)
-  unfolding vertex opposite
-  to_head e =
-      let z : (d + 1) / 2 ≡ d / 2 = omega arith in
-      rw (eq-eqb (d % 2) 0 e) (rw (ne_eqb ((d + 1) % 2) 0 (λ q. omega arith), z) refl)
-
-  to_tail : (d % 2 ≡ 0 → ⊥) → get_or s.tails (d / 2) 0 ≡ vertex s (opposite d)
-  unfolding vertex opposite
-  to_tail n =
-      let z : (d - 1) / 2 ≡ d / 2 = omega arith in
-      rw (ne_eqb (d % 2) 0 n) (rw (eq-eqb ((d - 1) % 2) 0 (omega arith), z) refl)
-
 -- both darts of link k
 module _ (s : Sheet) (k : ℕ) where
   pub along_from : vertex s (2 * k) ≡ tail s k
-  along_from = let z : 2 * k / 2 ≡ k = omega arith in sym (from_tail s (2 * k) (omega arith)) ∙ ap (tail s) z
+  along_from = dart_vertex s true k
 
   pub along_to : vertex s (opposite (2 * k)) ≡ head s k
-  along_to = let z : 2 * k / 2 ≡ k = omega arith in sym (to_head s (2 * k) (omega arith)) ∙ ap (head s) z
+  along_to = ap (vertex s) (dart_opposite true k) ∙ dart_vertex s false k
 
   pub back_from : vertex s (2 * k + 1) ≡ head s k
-  back_from = let z : (2 * k + 1) / 2 ≡ k = omega arith in sym (from_head s (2 * k + 1) (λ e. omega arith)) ∙ ap (head s) z
+  back_from = dart_vertex s false k
 
   pub back_to : vertex s (opposite (2 * k + 1)) ≡ tail s k
-  back_to = let z : (2 * k + 1) / 2 ≡ k = omega arith in sym (to_tail s (2 * k + 1) (λ e. omega arith)) ∙ ap (tail s) z
+  back_to = ap (vertex s) (dart_opposite false k) ∙ dart_vertex s true k
 
 -- they are below 128
 pub vertex_in : (s : Sheet) → Ends 128 s.edges s.tails → Ends 128 s.edges s.heads → (d : ℕ) → d < 2 * s.edges → vertex s d < 128
-vertex_in s T H d h =
-    by_cases (ℕ_discrete (d % 2) 0)
-    (λ e. omega (arith, from_tail s d e, T.inside (d / 2) (omega arith)))
-    (λ n. omega (arith, from_head s d n, H.inside (d / 2) (omega arith)))
+vertex_in s T H d h = subst (λ e. vertex s e < 128) (dart_is d) (inside (is_tail d))
+  where
+    inside : (b : Bool) → vertex s (dart b (d / 2)) < 128
+    inside true = rw (dart_vertex s true (d / 2)) (T.inside (d / 2) (edge_below s h))
+    inside false = rw (dart_vertex s false (d / 2)) (H.inside (d / 2) (edge_below s h))
 
 -- ---- the lowest that passes
 

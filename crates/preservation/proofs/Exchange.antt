@@ -12,7 +12,7 @@ use Rattle.clauses.specs.Darts.{tail_dart, head_dart, is_tail, opposite}
 use Rattle.sheet.specs.Darts.{darts}
 use Rattle.sheet.specs.Sound.{Sound}
 use Rattle.soundness.specs.Maps.{map_with, map_of}
-use Rattle.soundness.proofs.Darts.{dart, dart_kind, dart_edge, dart_below, each_dart, by_dart, dart_opposite}
+use Rattle.sheet.proofs.Darts.{dart, dart_kind, dart_edge, dart_below, each_dart, by_dart, dart_opposite}
 use Rattle.soundness.proofs.Plane.{plane_of}
 use Rattle.preservation.proofs.Maps.{new_head}
 

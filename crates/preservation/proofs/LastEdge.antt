@@ -8,7 +8,7 @@ use Rattle.clauses.specs.declared.Sheet.{Sheet}
 use Rattle.clauses.specs.Darts.{tail_dart, head_dart}
 use Rattle.sheet.specs.Darts.{Sized, tail, head, vertex, next}
 use Rattle.sheet.specs.Sound.{Unused}
-use Rattle.soundness.proofs.Darts.{dart, each_dart, by_dart, dart_vertex}
+use Rattle.sheet.proofs.Darts.{dart, each_dart, by_dart, dart_vertex}
 use Rattle.edit.specs.Changes.{renamed, replace_dart, last_edge_to}
 use Rattle.preservation.proofs.Places.{renamed_old, renamed_other, replace_size, replace_zero}
 use Rattle.preservation.proofs.Removing.{replaced_at, moved_size, moved_at, moved_zero}

@@ -5,7 +5,7 @@ use Rattle.std.proofs.lemmas.List.{get_or-map}
 use Rattle.clauses.specs.declared.Sheet.{Sheet}
 use Rattle.sheet.specs.Darts.{Sized, darts, vertex, next}
 use Rattle.sheet.specs.Sound.{Unused}
-use Rattle.soundness.proofs.Darts.{dart, by_dart, dart_vertex}
+use Rattle.sheet.proofs.Darts.{dart, by_dart, dart_vertex}
 use Rattle.edit.specs.Changes.{renamed, last_vertex_to}
 use Rattle.preservation.proofs.Places.{named_zero}
 

@@ -11,7 +11,7 @@ use Rattle.sheet.specs.Darts.{darts, vertex, tail, head}
 use Rattle.sheet.specs.Sound.{Ring, Leads, Incoming, Outgoing, Sound, Joins, Unused, Limits}
 use Rattle.sheet.specs.Check.{face, face_count}
 use Rattle.soundness.specs.Maps.{map_with}
-use Rattle.soundness.proofs.Darts.{dart, dart_kind, dart_below, dart_is, dart_opposite, dart_vertex, edge_below}
+use Rattle.sheet.proofs.Darts.{dart, dart_kind, dart_below, dart_is, dart_opposite, dart_vertex, edge_below}
 use Rattle.soundness.proofs.Faces.{walk_faces}
 use Rattle.preservation.specs.Maps.{Framed}
 

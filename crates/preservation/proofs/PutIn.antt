@@ -10,7 +10,7 @@ use Rattle.sheet.specs.Darts.{Sized, tail, head, darts, vertex, next}
 use Rattle.sheet.specs.Sound.{Sound, Unused}
 use Rattle.sheet.specs.Check.{sound, row}
 use Rattle.soundness.specs.Maps.{map_with, map_of}
-use Rattle.soundness.proofs.Darts.{dart, dart_kind, dart_below, by_dart, dart_opposite, dart_vertex}
+use Rattle.sheet.proofs.Darts.{dart, dart_kind, dart_below, by_dart, dart_opposite, dart_vertex}
 use Rattle.soundness.proofs.Plane.{plane_of}
 use Rattle.soundness.proofs.Law.{was_sound}
 use Rattle.answers.specs.declared.Refusal.TheVariants.{NotSound, NotInSheet, RootEdge, Full}

@@ -13,7 +13,7 @@ use Rattle.sheet.specs.Darts.{Sized, tail, head, darts, vertex, touches, dart_at
 use Rattle.sheet.specs.Sound.{Sound, Unused}
 use Rattle.sheet.specs.Check.{sound, row}
 use Rattle.soundness.specs.Maps.{map_with, map_of}
-use Rattle.soundness.proofs.Darts.{dart, dart_kind, by_dart, dart_opposite, dart_vertex}
+use Rattle.sheet.proofs.Darts.{dart, dart_kind, by_dart, dart_opposite, dart_vertex}
 use Rattle.soundness.proofs.Ends.{at_below, at_end}
 use Rattle.soundness.proofs.Plane.{plane_of}
 use Rattle.soundness.proofs.Law.{was_sound}

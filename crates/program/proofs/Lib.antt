@@ -3,3 +3,4 @@ pub mod Bound
 pub mod Put
 pub mod Turns
 pub mod Cases
+pub mod Forms

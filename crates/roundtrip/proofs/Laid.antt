@@ -11,7 +11,7 @@ use Rattle.clauses.specs.declared.Sheet.{Sheet}
 use Rattle.sheet.specs.Darts.{darts, vertex, next, dart_at}
 use Rattle.sheet.specs.Sound.{Joins, Ring}
 use Rattle.load.specs.Rings.{link_ring}
-use Rattle.soundness.proofs.Darts.{edge_below}
+use Rattle.sheet.proofs.Darts.{edge_below}
 use Rattle.roundtrip.proofs.Around.{Around}
 use Rattle.soundness.proofs.Ends.{EndAt, at_below, at_end, end_touches, end_at_law}
 use Rattle.roundtrip.proofs.Linking.{link_other, link_at}

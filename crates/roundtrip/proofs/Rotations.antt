@@ -10,7 +10,7 @@ use Rattle.counting.proofs.Reach.{returns, iter_one_one}
 use Rattle.clauses.specs.declared.Sheet.{Sheet}
 use Rattle.sheet.specs.Darts.{darts, touches, dart_at, next}
 use Rattle.sheet.specs.Sound.{Sound}
-use Rattle.soundness.proofs.Darts.{edge_below}
+use Rattle.sheet.proofs.Darts.{edge_below}
 use Rattle.soundness.proofs.Rings.{Rotation}
 use Rattle.soundness.proofs.Law.{rotation_of}
 use Rattle.load.specs.Rings.{link_ring}

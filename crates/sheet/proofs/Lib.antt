@@ -1,3 +1,4 @@
+pub mod Darts
 pub mod Rings
 pub mod Clauses
 pub mod Found

@@ -18,7 +18,7 @@ use Rattle.soundness.specs.Maps.{map_of}
 use Rattle.soundness.specs.Laws.{Columns}
 use Rattle.counting.proofs.Tables as tables
 use Rattle.counting.proofs.Paths.{carry}
-use Rattle.soundness.proofs.Darts.{dart, dart_is, dart_kind, dart_below, dart_opposite, edge_below}
+use Rattle.sheet.proofs.Darts.{dart, dart_is, dart_kind, dart_below, dart_opposite, edge_below}
 use Rattle.soundness.proofs.Levels.{circle_over, longest_over, acyclic_says, level_longest}
 use Rattle.soundness.proofs.Faces.{faces_numbered}
 use Rattle.soundness.proofs.Law.{rotation_of}

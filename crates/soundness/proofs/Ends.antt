@@ -4,7 +4,7 @@ use Rattle.std.proofs.Math.Logic.{by_cases}
 use Rattle.std.proofs.Math.Decide.{ℕ_discrete}
 use Rattle.counting.proofs.Iterate.{by_bool}
 use Rattle.soundness.proofs.Tests.{eq_says, or_says, Says}
-use Rattle.soundness.proofs.Darts.{dart, dart_edge, dart_below, dart_vertex, by_dart}
+use Rattle.sheet.proofs.Darts.{dart, dart_edge, dart_below, dart_vertex, by_dart}
 use Rattle.clauses.specs.declared.Sheet.{Sheet}
 use Rattle.clauses.specs.Darts.{is_tail, touches_of, dart_of}
 use Rattle.sheet.specs.Darts.{tail, head, darts, vertex, touches, dart_at}

@@ -12,7 +12,7 @@ use Rattle.sheet.specs.Sound.{Faces, Euler}
 use Rattle.sheet.specs.Check.{face_table, face, face_count, planar}
 use Rattle.counting.proofs.Below.{get_d_tabulated}
 use Rattle.soundness.proofs.Tests.{Says, eq_says, reworded}
-use Rattle.soundness.proofs.Darts.{opposite_below, opposite_opposite}
+use Rattle.sheet.proofs.Darts.{opposite_below, opposite_opposite}
 use Rattle.soundness.proofs.Rings.{Rotation}
 
 module _ (s : Sheet) (few : s.edges ≤ 256) (p : Perm (darts s) (walk s)) where

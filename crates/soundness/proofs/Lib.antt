@@ -1,5 +1,4 @@
 pub mod Tests
-pub mod Darts
 pub mod Clauses
 pub mod Rings
 pub mod Levels

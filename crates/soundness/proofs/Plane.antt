@@ -8,7 +8,7 @@ use Rattle.sheet.specs.Darts.{tail, head, darts, vertex}
 use Rattle.sheet.specs.Sound.{Sound}
 use Rattle.sheet.specs.Check.{row}
 use Rattle.soundness.specs.Maps.{map_of}
-use Rattle.soundness.proofs.Darts.{dart, dart_kind, dart_below, by_dart, dart_opposite, dart_vertex, opposite_below, opposite_opposite, opposite_kind}
+use Rattle.sheet.proofs.Darts.{dart, dart_kind, dart_below, by_dart, dart_opposite, dart_vertex, opposite_below, opposite_opposite, opposite_kind}
 use Rattle.soundness.proofs.Rings.{vertex_below}
 use Rattle.soundness.proofs.Faces.{faces_numbered, faces_unique}
 use Rattle.soundness.proofs.Law.{rotation_of}

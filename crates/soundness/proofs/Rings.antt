@@ -11,7 +11,7 @@ use Rattle.sheet.specs.Darts.{darts, vertex, next}
 use Rattle.sheet.specs.Sound.{Joins, Ring}
 use Rattle.sheet.specs.Check.{in_rings}
 use Rattle.soundness.proofs.Tests.{Says, eq_says, reworded, and_says, implies_says, all_says}
-use Rattle.soundness.proofs.Darts.{dart, by_dart, dart_vertex}
+use Rattle.sheet.proofs.Darts.{dart, by_dart, dart_vertex}
 
 -- the rings of all vertices, in one
 pub record Rotation (s : Sheet) : Type 0 where

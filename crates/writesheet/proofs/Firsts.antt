@@ -10,7 +10,7 @@ use Rattle.counting.proofs.Iterate.{clash}
 use Rattle.clauses.specs.declared.Sheet.{Sheet}
 use Rattle.sheet.specs.Darts.{tail, head, darts, vertex, touches, dart_at, next}
 use Rattle.sheet.specs.Sound.{Sound}
-use Rattle.soundness.proofs.Darts.{dart_vertex}
+use Rattle.sheet.proofs.Darts.{dart_vertex}
 use Rattle.soundness.proofs.Law.{rotation_of}
 use Rattle.soundness.proofs.Ends.{touched}
 use Rattle.writesheet.specs.Rings.{ring_from, lowest_dart, rotation}
