@@ -60,6 +60,13 @@ uint16_t walnut_load_links(const uint8_t *text, size_t length, size_t *bars, siz
 bool walnut_is_sound(size_t bars, size_t wires, const uint16_t tails[WALNUT_WIRES], const uint16_t heads[WALNUT_WIRES],
                      const uint16_t nexts[WALNUT_ENDS]);
 
+/* Trace faces: `faces` gets for each end the number of the face whose walk leaves its bar by that end, so that entry 2k is
+ * the left face of wire k and entry 2k+1 its right face. There are m - n + 2 faces, numbered from 0 in the order of their
+ * lowest such end; entries past the last end are 0. Refused (9) all 512 entries are 0. */
+uint16_t walnut_trace_faces(size_t bars, size_t wires, const uint16_t tails[WALNUT_WIRES],
+                            const uint16_t heads[WALNUT_WIRES], const uint16_t nexts[WALNUT_ENDS],
+                            uint16_t faces[WALNUT_ENDS]);
+
 /* The kinds of edits. */
 enum { WALNUT_IN = 0, WALNUT_RUN = 1, WALNUT_OUT = 2, WALNUT_OFF = 3, WALNUT_UNREADABLE = 5 };
 

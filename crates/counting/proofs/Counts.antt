@@ -1,8 +1,10 @@
 -- Laws of `count`, and the pigeonhole principle for a function onto. Assumes nothing.
-use Rattle.std.proofs.Common.{◌≡◌, refl, sym, ap, ◌∙◌, ◌≢◌, Bool, true, false, not, ◌&&◌, true≢false, ℕ, zero, suc, ◌+◌, ◌≤◌, ◌<◌, zero-le, le_of_eq, arith, eqb, ltb, eq-eqb, ne_eqb, lt-ltb, le-ltb, List, get_or, set, length, add-one}
+use Rattle.std.proofs.Common.{◌≡◌, refl, sym, ap, ◌∙◌, ◌≢◌, Bool, true, false, not, ◌&&◌, ◌||◌, true≢false, ℕ, zero, suc, ◌+◌, ◌*◌, ◌≤◌, ◌<◌, zero-le, le_of_eq, arith, eqb, ltb, eq-eqb, ne_eqb, lt-ltb, le-ltb, List, get_or, set, length, zero-add, add-one}
 use Rattle.std.proofs.Math.Logic.{by_cases}
+use Rattle.std.proofs.Math.Bool.{or-true, or-false}
 use Rattle.std.proofs.lemmas.Bool.{false≢true}
 use Rattle.std.proofs.Math.Decide.{ℕ_discrete, dec_lt}
+use Rattle.counting.specs.Below.{some_below}
 use Rattle.counting.specs.Counts.{bit, count}
 use Rattle.counting.proofs.Pigeonhole.{Found, find, pigeonhole}
 use Rattle.counting.proofs.Pigeonhole.Found.{at, nowhere}
@@ -246,3 +248,22 @@ tally_more k entries table v e h x old = rw (add-one k) (go (stored table v (get
     go : Stored table v (get_or table v 0 + 1) x 0 → get_or (set table v (get_or table v 0 + 1)) x 0 ≡ bit (eqb (get_or entries k 0) x) + count (λ d. eqb (get_or entries d 0) x) k
     go (here p q) = omega (arith, q, ap bit (eq-eqb (get_or entries k 0) x (sym e ∙ sym p)), old, ap (λ y. get_or table y 0) p)
     go (apart n q) = omega (arith, q, ap bit (ne_eqb (get_or entries k 0) x (λ p. n (sym p ∙ sym e))), old)
+
+-- some number passes where their count is not 0
+pub some_counted : (p : ℕ → Bool) (n : ℕ) → some_below p n ≡ not (eqb (count p n) 0)
+unfolding some_below count
+some_counted p zero = refl
+some_counted p (suc n) = go (p n) (some_counted p n)
+  where
+    go : (b : Bool) → some_below p n ≡ not (eqb (count p n) 0) → (some_below p n || b) ≡ not (eqb (bit b + count p n) 0)
+    go true ih = rw (or-true (some_below p n), ne_eqb (1 + count p n) 0 (omega arith)) refl
+    go false ih = rw (or-false, zero-add) ih
+
+-- the numbers that pass below 2n are the even ones and the odd ones
+pub count_twice : (p : ℕ → Bool) (n : ℕ) → count p (2 * n) ≡ count (λ k. p (2 * k)) n + count (λ k. p (2 * k + 1)) n
+unfolding count
+count_twice p zero = refl
+count_twice p (suc n) =
+    let z : 2 * suc n ≡ suc (suc (2 * n)) = omega arith in
+    let o : suc (2 * n) ≡ 2 * n + 1 = omega arith in
+    omega (arith, ap (count p) z, ap (λ x. bit (p x)) o, count_twice p n)

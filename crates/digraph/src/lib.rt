@@ -3,7 +3,7 @@
 #![tactic(auto)]
 
 ghost use Rattle.std.specs.Prelude.{◌≡◌, IsTrue, ◌↔◌, true, ℕ, ◌+◌, ◌≤◌, ◌<◌, get_or};
-ghost use Rattle.digraph.specs.Digraph.{flat};
+ghost use Rattle.digraph.specs.Digraph.{Within, flat};
 ghost use Rattle.digraph.specs.Relaxed.{within_of, found, levels_of};
 ghost use Rattle.digraph.specs.Inner.{Ends, Chained, Waiting, Queued, Stepped, Underway, Onward};
 
@@ -174,6 +174,14 @@ impl<'a> Digraph<'a> {
         if !self.is_within() {
             return None;
         }
+        self.levels_within()
+    }
+
+    // The same of a digraph whose counts are within the arrays and whose edges join nodes: these are not tested.
+    pub fn levels_within(&self) -> Option<[u16; 256]>
+        requires { Within self.now.nodes self.now.edges self.now.from.now self.now.to.now }
+        ensures { result ≡ found (levels_of self.now.nodes self.now.edges self.now.from.now self.now.to.now) }
+    {
         let lists = Lists::chain(self);
         let mut sorting = Sorting::start(self);
         lists.settle(&mut sorting);

@@ -1,7 +1,8 @@
 -- The drawing of a sound sheet, laid out step by step from its rows and faces. Assumes nothing.
 use Rattle.std.proofs.Common.{ℕ, ◌≤◌, ◌<◌, ◌≡◌, refl, ap, ◌∙◌, List, arith, get_or, Option, Some}
+use Rattle.digraph.specs.Digraph.{Within}
 use Rattle.digraph.specs.Relaxed.{found, levels_of}
-use Rattle.soundness.proofs.Columns.{columns_acyclic}
+use Rattle.soundness.proofs.Columns.{columns_within, columns_acyclic}
 use Rattle.clauses.specs.declared.Sheet.{Sheet}
 use Rattle.sheet.specs.declared.Findings.{Findings}
 use Rattle.digraph.specs.Inner.{Ends}
@@ -30,6 +31,10 @@ module _ {s : Sheet} {f : Findings} {from to : List ℕ} (F : Found s f) (e : fr
 
   to_are : to ≡ edge_table (face_to s) s
   to_are = t ∙ ap (leading_faces s.edges 1) F.faces_are ∙ to_table s
+
+  -- each edge joins two faces
+  pub all_within : Within f.count s.edges from to
+  all_within = rw (F.count_is, from_are, to_are) (columns_within F.has_sound)
 
   -- the faces make no circle
   pub levels_found : {levels : Option (List ℕ)} → levels ≡ found (levels_of f.count s.edges from to) → levels ≡ Some (column_levels s).level

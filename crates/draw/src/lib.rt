@@ -159,14 +159,14 @@ pub fn draw(s: Sheet) -> Result<Drawing, Refusal>
     let found = sheet::examine(s)?;
     let from = faces_before(s.edges, &found.faces);
     let to = faces_after(s.edges, &found.faces);
-    // The faces of a sound sheet make no circle.
+    // Each edge of it joins two faces, and the faces of a sound sheet make no circle.
     let graph = Digraph {
         nodes: found.count,
         edges: s.edges,
         from: &from,
         to: &to,
     };
-    let level = graph.levels().unwrap();
+    let level = graph.levels_within().unwrap();
     let last = level[usize::from(to[0])];
     let columns = columns_beside(s.edges, &level, &from, last, 0);
     let ends = columns_beside(s.edges, &level, &to, last, 1);

@@ -4,8 +4,11 @@
 
 ghost use Rattle.std.specs.Prelude.{◌≡◌};
 ghost use Rattle.digraph.specs.Relaxed.{levels_of};
+ghost use Rattle.orbits.specs.Meaning.{entries};
 ghost use Rattle.orbits.specs.Tables.{traced};
 ghost use Rattle.sheet.specs.Check.{sound};
+ghost use Rattle.answers.specs.Answers.{answer_number};
+ghost use Rattle.tracefaces.specs.Call.{trace_faces_call, returned};
 ghost use Rattle.load.specs.Load.{load, load_links};
 ghost use Rattle.writesheet.specs.Write.{write_sheet, buffer_after_sheet};
 ghost use Rattle.edit.specs.Lines.{read_edit};
@@ -47,15 +50,15 @@ pub extern "C" fn walnut_levels(
     found.is_some()
 }
 
-// The orbit of each element of a permutation, and how many orbits there are.
+// The orbit of each element of a permutation that is given as a table, and how many orbits there are.
 #[unsafe(no_mangle)]
 pub extern "C" fn walnut_trace(size: usize, step: &[u16; 512], orbit: &mut [u16; 512]) -> usize
-    ensures { (result ≡ (traced size step.now).count) × (orbit.new ≡ (traced size step.now).orbit) }
+    ensures { (result ≡ (traced size (entries step.now)).count) × (orbit.new ≡ (traced size (entries step.now)).orbit) }
 {
     let Traced {
         count,
         orbit: numbers,
-    } = orbits::trace(size, step);
+    } = orbits::trace(size, |d| usize::from(step[d]));
     *orbit = numbers;
     count
 }
@@ -113,6 +116,24 @@ pub extern "C" fn walnut_is_sound(
     ensures { result ≡ sound (sheet_of vertices edges tails.now heads.now nexts.now) }
 {
     sheet::is_sound(sheet_of(vertices, edges, tails, heads, nexts))
+}
+
+// Trace faces. The table takes the place of the lent numbers: refused, 512 zeros.
+#[unsafe(no_mangle)]
+pub extern "C" fn walnut_trace_faces(
+    vertices: usize,
+    edges: usize,
+    tails: &[u16; 256],
+    heads: &[u16; 256],
+    nexts: &[u16; 512],
+    faces: &mut [u16; 512],
+) -> u16
+    ensures { (result ≡ answer_number (trace_faces_call (sheet_of vertices edges tails.now heads.now nexts.now))) × (faces.new ≡ returned (trace_faces_call (sheet_of vertices edges tails.now heads.now nexts.now))) }
+{
+    let traced = tracefaces::trace_faces(sheet_of(vertices, edges, tails, heads, nexts));
+    let number = answers::answer_number(&traced);
+    *faces = tracefaces::returned(traced);
+    number
 }
 
 // What a load returns takes the place of the present sheet; its number.

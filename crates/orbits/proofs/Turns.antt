@@ -12,26 +12,26 @@ unfolding unnumbered_below
 unnumbered_filled size part h e =
     rw (e, length-take-le {A = ℕ} size (replicate 512 0) (omega (arith, length-replicate {A = ℕ} 512 0)), drop-replicate {X = ℕ} size 512 0) refl
 
-module _ (n i size : ℕ) (step : List ℕ) (e f at : ℕ) (orbit : List ℕ) where
+module _ (n i size : ℕ) (step : ℕ → ℕ) (e f at : ℕ) (orbit : List ℕ) where
   pub walk_over : n ≤ i → walk_from (n - i) size step e f at orbit ≡ orbit
   unfolding walk_from
   walk_over h = let z : n - i ≡ 0 = omega arith in rw z refl
 
   module _ (h : i < n) where
-    pub walk_round : get_or step at 0 ≡ e → walk_from (n - i) size step e f at orbit ≡ set orbit at f
+    pub walk_round : step at ≡ e → walk_from (n - i) size step e f at orbit ≡ set orbit at f
     unfolding walk_from
-    walk_round q = let z : n - i ≡ suc (n - (i + 1)) = omega arith in rw (z, eq-eqb (get_or step at 0) e q) refl
+    walk_round q = let z : n - i ≡ suc (n - (i + 1)) = omega arith in rw (z, eq-eqb (step at) e q) refl
 
-    pub walk_out : size ≤ get_or step at 0 → walk_from (n - i) size step e f at orbit ≡ set orbit at f
+    pub walk_out : size ≤ step at → walk_from (n - i) size step e f at orbit ≡ set orbit at f
     unfolding walk_from
-    walk_out l = let z : n - i ≡ suc (n - (i + 1)) = omega arith in rw (z, le-leb size (get_or step at 0) l, or-true) refl
+    walk_out l = let z : n - i ≡ suc (n - (i + 1)) = omega arith in rw (z, le-leb size (step at) l, or-true) refl
 
-    pub walk_more : get_or step at 0 ≢ e → get_or step at 0 < size
-        → walk_from (n - i) size step e f at orbit ≡ walk_from (n - (i + 1)) size step e f (get_or step at 0) (set orbit at f)
+    pub walk_more : step at ≢ e → step at < size
+        → walk_from (n - i) size step e f at orbit ≡ walk_from (n - (i + 1)) size step e f (step at) (set orbit at f)
     unfolding walk_from
-    walk_more q l = let z : n - i ≡ suc (n - (i + 1)) = omega arith in rw (z, ne_eqb (get_or step at 0) e q, lt-leb size (get_or step at 0) l) refl
+    walk_more q l = let z : n - i ≡ suc (n - (i + 1)) = omega arith in rw (z, ne_eqb (step at) e q, lt-leb size (step at) l) refl
 
-module _ (size e : ℕ) (step : List ℕ) (f : ℕ) (orbit : List ℕ) where
+module _ (size e : ℕ) (step : ℕ → ℕ) (f : ℕ) (orbit : List ℕ) where
   pub trace_over : size ≤ e → trace_from (size - e) size step e f orbit ≡ record { count = f; orbit = orbit }
   unfolding trace_from
   trace_over h = let z : size - e ≡ 0 = omega arith in rw z refl
@@ -45,7 +45,7 @@ module _ (size e : ℕ) (step : List ℕ) (f : ℕ) (orbit : List ℕ) where
     unfolding trace_from
     trace_old q = let z : size - e ≡ suc (size - (e + 1)) = omega arith in rw (z, ne_eqb (get_or orbit e 0) 512 q) refl
 
-module _ (size : ℕ) (step : List ℕ) where
+module _ (size : ℕ) (step : ℕ → ℕ) where
   pub traced_none : 512 < size → traced size step ≡ record { count = 0; orbit = replicate 512 0 }
   unfolding traced
   traced_none h = rw (lt-leb size 512 h) refl

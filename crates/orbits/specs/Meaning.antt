@@ -16,21 +16,21 @@ pub record Lead (size : ℕ) (label : ℕ → ℕ) (c : ℕ) : Type 0 where
   pub least : (d : ℕ) → d < first → label d < c
 
 -- r has the orbits of the step, in the order of their lowest elements
-pub record Numbering (size : ℕ) (step : List ℕ) (r : Traced) : Type 0 where
-  pub orbits : Orbits size (entries step) (entries r.orbit) r.count
+pub record Numbering (size : ℕ) (step : ℕ → ℕ) (r : Traced) : Type 0 where
+  pub orbits : Orbits size step (entries r.orbit) r.count
   -- two elements have one number exactly where one is reached from the other
-  pub same : (d e : ℕ) → d < size → e < size → (entries r.orbit d ≡ entries r.orbit e) ↔ Reach (entries step) d e
+  pub same : (d e : ℕ) → d < size → e < size → (entries r.orbit d ≡ entries r.orbit e) ↔ Reach step d e
   pub lead : (c : ℕ) → c < r.count → Lead size (entries r.orbit) c
   pub past : (d : ℕ) → size ≤ d → entries r.orbit d ≡ 0
   pub full : length r.orbit ≡ 512
 
 -- of a permutation `traced` has the orbits
 abbrev pub TracedLaw : Type 0
-TracedLaw = (size : ℕ) (step : List ℕ) → size ≤ 512 → Perm size (entries step) → Numbering size step (traced size step)
+TracedLaw = (size : ℕ) (step : ℕ → ℕ) → size ≤ 512 → Perm size step → Numbering size step (traced size step)
 
--- and of every table it has no more than the elements
+-- and of every step it has no more than the elements
 abbrev pub CountLaw : Type 0
-CountLaw = (size : ℕ) (step : List ℕ) → (traced size step).count ≤ size
+CountLaw = (size : ℕ) (step : ℕ → ℕ) → (traced size step).count ≤ size
 
 -- `is_permutation` says whether the table permutes the elements below `size`, and they fit it
 abbrev pub PermutationLaw : Type 0

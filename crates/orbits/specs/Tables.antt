@@ -1,4 +1,4 @@
--- The orbits of a table's step, and whether the table is a permutation, as definitions that compute.
+-- The orbits of a step, and whether a table is a permutation, as definitions that compute.
 use Rattle.std.specs.Prelude.{ℕ, zero, suc, ◌+◌, ◌-◌, Bool, true, false, not, ◌&&◌, ◌||◌, List, ◌++◌, eqb, leb, ltb, get_or, set, replicate}
 use Rattle.counting.specs.Choice.{pick}
 use Rattle.orbits.specs.declared.Traced.{Traced}
@@ -8,15 +8,15 @@ unfoldable pub unnumbered_below : ℕ → List ℕ
 unnumbered_below size = replicate size 512 ++ replicate (512 - size) 0
 
 -- n steps from `at` on give each element the number f, until the start e returns or a step leaves the elements below `size`
-unfoldable pub walk_from : ℕ → ℕ → List ℕ → ℕ → ℕ → ℕ → List ℕ → List ℕ
+unfoldable pub walk_from : ℕ → ℕ → (ℕ → ℕ) → ℕ → ℕ → ℕ → List ℕ → List ℕ
 walk_from zero size step e f at orbit = orbit
 walk_from (suc n) size step e f at orbit =
-    pick (eqb (get_or step at 0) e || leb size (get_or step at 0))
+    pick (eqb (step at) e || leb size (step at))
     (λ _. set orbit at f)
-    (λ _. walk_from n size step e f (get_or step at 0) (set orbit at f))
+    (λ _. walk_from n size step e f (step at) (set orbit at f))
 
 -- the n elements from e on: one that has no number yet starts the orbit f
-unfoldable pub trace_from : ℕ → ℕ → List ℕ → ℕ → ℕ → List ℕ → Traced
+unfoldable pub trace_from : ℕ → ℕ → (ℕ → ℕ) → ℕ → ℕ → List ℕ → Traced
 trace_from zero size step e f orbit = record { count = f; orbit = orbit }
 trace_from (suc n) size step e f orbit =
     pick (eqb (get_or orbit e 0) 512)
@@ -24,7 +24,7 @@ trace_from (suc n) size step e f orbit =
     (λ _. trace_from n size step (e + 1) f orbit)
 
 -- the orbits of the elements below `size`; none where they do not fit a table
-unfoldable pub traced : ℕ → List ℕ → Traced
+unfoldable pub traced : ℕ → (ℕ → ℕ) → Traced
 traced size step =
     pick (leb size 512) (λ _. trace_from size size step 0 0 (unnumbered_below size)) (λ _. record { count = 0; orbit = replicate 512 0 })
 

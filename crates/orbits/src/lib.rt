@@ -1,7 +1,7 @@
-// The orbits of a permutation of numbers that is given as a table.
+// The orbits of a permutation of numbers that is given as a function.
 #![tactic(auto)]
 
-ghost use Rattle.std.specs.Prelude.{◌≡◌, ◌<◌, ◌≤◌};
+ghost use Rattle.std.specs.Prelude.{ℕ, ◌≡◌, ◌<◌, ◌≤◌};
 ghost use Rattle.orbits.specs.Tables.{unnumbered_below, traced};
 
 // The number of each element's orbit, and how many orbits there are. An array: fixed memory, no heap, and the specification names it.
@@ -25,11 +25,12 @@ fn unnumbered(size: usize) -> [u16; 512]
 }
 
 // The orbits of the elements below `size`, numbered from 0 in the order of their lowest elements; entries past the last element are 0.
-// A walk stops at the element it started from. Where the table is no permutation it stops too where it leaves the elements, or
+// A walk stops at the element it started from. Where the step is no permutation it stops too where it leaves the elements, or
 // after `size` steps. More than 512 elements have no orbits.
 #[tactic(auto, using(crate::proofs::Turns::turns))]
-pub fn trace(size: usize, step: &[u16; 512]) -> Traced
-    ensures { result ≡ traced size step.now }
+pub fn trace<F: Fn(usize) -> usize>(size: usize, step: F) -> Traced
+    requires callable { (d : ℕ) → d < size → d < 512 → F.pre step d }
+    ensures { (of : ℕ → ℕ) → ((d x : ℕ) → d < size → F.post step d x → x ≡ of d) → result ≡ traced size of }
 {
     if 512 < size {
         // No `Option`: the C interface hands out what is found for any size, by a call that cannot fail.
@@ -52,7 +53,7 @@ pub fn trace(size: usize, step: &[u16; 512]) -> Traced
             for _step in 0..size {
                 // `as`: the contract shows that the number fits; there is no `From` for it, and `TryFrom` would have a failing branch.
                 orbit[at] = f as u16;
-                at = usize::from(step[at]);
+                at = step(at);
                 if at == e || size <= at {
                     break;
                 }

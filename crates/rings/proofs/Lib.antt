@@ -1,3 +1,4 @@
 pub mod Rings
 pub mod Walking
+pub mod Poles
 pub mod Outcome

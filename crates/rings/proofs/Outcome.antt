@@ -1,6 +1,7 @@
--- All vertices: their rings and levels are right; or some ring is not, or there is a circle. Assumes nothing.
+-- All vertices: the rule on vertices 0 and 1 is met, and their rings and levels are right; or one of these is not so, or there is a circle. Assumes nothing.
 use Rattle.std.proofs.Common.{ℕ, ◌+◌, ◌*◌, ◌≤◌, ◌<◌, ◌≡◌, refl, sym, ◌∙◌, Bool, true, false, List, None, arith, get_or, eqb-true, leb-true, leb}
 use Rattle.std.specs.Bool.{then_some}
+use Rattle.std.proofs.Math.Bool.{and-false}
 use Rattle.counting.proofs.Iterate.{by_bool, clash}
 use Rattle.counting.proofs.Counts.{count_full}
 use Rattle.digraph.specs.Digraph.{Within, flat}
@@ -9,12 +10,17 @@ use Rattle.digraph.specs.declared.Sorting.{Sorting}
 use Rattle.rings.specs.declared.Darts.{Darts}
 use Rattle.digraph.specs.Inner.{Ends, Waiting, Queued, ready, Settled}
 use Rattle.digraph.proofs.Settling.{start, outcome}
-use Rattle.clauses.specs.Inner.{dart_table, vertex_of}
+use Rattle.clauses.specs.Inner.{dart_table, vertex_of, poles_of}
 use Rattle.clauses.proofs.Below.{dart_at_law}
 use Rattle.clauses.proofs.Tables.{tail_vertex, head_vertex}
 use Rattle.rings.specs.Inner.{OneRingEach, Held, Degrees, Covered, Placed, Underway, PassedOn, rings_of, ring_levels}
 use Rattle.rings.proofs.Rings.{rings_refused, rings_met}
 use Rattle.rings.proofs.Walking.{vertex_in}
+
+-- the rule on vertices 0 and 1 is not met
+pub no_poles : (n m : ℕ) (tails heads nexts : List ℕ) → poles_of n m tails heads ≡ false → None ≡ found (ring_levels n m tails heads nexts)
+unfolding ring_levels
+no_poles n m tails heads nexts f = rw f refl
 
 module _ {n m : ℕ} {tails heads : List ℕ} (few : n ≤ 128) (T : Ends n m tails) (H : Ends n m heads) where
   pub inside : Within n m tails heads
@@ -35,7 +41,7 @@ module _ {n m : ℕ} {tails heads : List ℕ} (few : n ≤ 128) (T : Ends n m ta
     -- a ring is not right
     pub no_rings : (nexts : List ℕ) → ¬ OneRingEach count at nexts → None ≡ found (ring_levels n m tails heads nexts)
     unfolding ring_levels rings_of
-    no_rings nexts f = let z = rw (ec, ea) at (rings_refused count at nexts (omega (arith, T.few)) f) in rw z refl
+    no_rings nexts f = let z = rw (ec, ea) at (rings_refused count at nexts (omega (arith, T.few)) f) in rw (z, and-false (poles_of n m tails heads)) refl
 
   module _ (r : Darts) (ec : r.count ≡ 2 * m) (ea : r.at ≡ dart_table (vertex_of tails heads) (2 * m)) (D : Degrees r.count r.at r.degree) (E : Held r.count r.at r.held)
       (s : Sorting) (A : Waiting m heads (λ j. true) s.waiting) (Q : Queued n s.waiting s.queue s.end) (z : s.level ≡ flat) where
@@ -63,9 +69,10 @@ module _ {n m : ℕ} {tails heads : List ℕ} (few : n ≤ 128) (T : Ends n m ta
       all_rings h = rw (ec, ea) at (rings_met (omega (arith, ec, T.few)) (covered h))
 
       -- all are right, or some did not come into the queue
-      pub answer : then_some (leb n s'.end) s'.level ≡ found (ring_levels n m tails heads r.nexts.now)
+      pub answer : poles_of n m tails heads ≡ true → then_some (leb n s'.end) s'.level ≡ found (ring_levels n m tails heads r.nexts.now)
       unfolding ring_levels
-      answer = by_bool (rings_of (2 * m) tails heads r.nexts.now) (λ t. rw t (outcome (placed ec ea).graph settled)) (λ f. rw f (none (leb n s'.end) refl (λ h. clash (all_rings h) f)))
+      answer p =
+          rw p (by_bool (rings_of (2 * m) tails heads r.nexts.now) (λ t. rw t (outcome (placed ec ea).graph settled)) (λ f. rw f (none (leb n s'.end) refl (λ h. clash (all_rings h) f))))
         where
           none : (b : Bool) → leb n s'.end ≡ b → ¬ n ≤ s'.end → then_some b s'.level ≡ None
           none true e k = absurd (k (leb-true _ _ e))

@@ -178,10 +178,10 @@ module _ {n : ℕ} {at nexts held : List ℕ} (on : (d : ℕ) → d < n → Cove
 
 module _ (n : ℕ) (at nexts : List ℕ) (fits : n ≤ 512) where
   module _ (O : OneRingEach n at nexts) where
-    law : Numbering n nexts (traced n nexts)
-    law = traced_law n nexts fits O.permuted
+    law : Numbering n (entries nexts) (traced n (entries nexts))
+    law = traced_law n (entries nexts) fits O.permuted
 
-    one : (d e : ℕ) → d < n → e < n → Dec (get_or at d 0 ≡ get_or at e 0) → (not (eqb (get_or at d 0) (get_or at e 0)) || eqb (get_or (traced n nexts).orbit d 0) (get_or (traced n nexts).orbit e 0)) ≡ true
+    one : (d e : ℕ) → d < n → e < n → Dec (get_or at d 0 ≡ get_or at e 0) → (not (eqb (get_or at d 0) (get_or at e 0)) || eqb (get_or (traced n (entries nexts)).orbit d 0) (get_or (traced n (entries nexts)).orbit e 0)) ≡ true
     one d e i j (yes q) = rw (eq-eqb (get_or at d 0) (get_or at e 0) q, eq-eqb _ _ ((law.same d e i j).1 (O.joined d e i j q))) refl
     one d e i j (no q) = rw (ne_eqb (get_or at d 0) (get_or at e 0) q) refl
 
@@ -189,14 +189,14 @@ module _ (n : ℕ) (at nexts : List ℕ) (fits : n ≤ 512) where
     unfolding rings_in ring_at
     right =
         rw ((permutation_law n nexts).1 (fits, O.permuted))
-        (all_of (ring_at n at nexts (traced n nexts).orbit) n (λ d l.
+        (all_of (ring_at n at nexts (traced n (entries nexts)).orbit) n (λ d l.
         rw (
           eq-eqb (get_or at (get_or nexts d 0) 0) (get_or at d 0) (O.stays d l),
-          all_of (λ e. not (eqb (get_or at d 0) (get_or at e 0)) || eqb (get_or (traced n nexts).orbit d 0) (get_or (traced n nexts).orbit e 0)) n (λ e i. one d e l i (ℕ_discrete (get_or at d 0) (get_or at e 0))),
+          all_of (λ e. not (eqb (get_or at d 0) (get_or at e 0)) || eqb (get_or (traced n (entries nexts)).orbit d 0) (get_or (traced n (entries nexts)).orbit e 0)) n (λ e i. one d e l i (ℕ_discrete (get_or at d 0) (get_or at e 0))),
         ) refl))
 
   module _ (good : rings_in n at nexts ≡ true) where
-    parts : (is_permutation n nexts ≡ true) × (all_below (ring_at n at nexts (traced n nexts).orbit) n ≡ true)
+    parts : (is_permutation n nexts ≡ true) × (all_below (ring_at n at nexts (traced n (entries nexts)).orbit) n ≡ true)
     unfolding rings_in
     parts = and_parts _ _ good
 
@@ -204,20 +204,20 @@ module _ (n : ℕ) (at nexts : List ℕ) (fits : n ≤ 512) where
     P = ((permutation_law n nexts).0 parts.0).1
 
     both : (d : ℕ) → d < n → (eqb (get_or at (get_or nexts d 0) 0) (get_or at d 0) ≡ true)
-        × (all_below (λ e. not (eqb (get_or at d 0) (get_or at e 0)) || eqb (get_or (traced n nexts).orbit d 0) (get_or (traced n nexts).orbit e 0)) n ≡ true)
+        × (all_below (λ e. not (eqb (get_or at d 0) (get_or at e 0)) || eqb (get_or (traced n (entries nexts)).orbit d 0) (get_or (traced n (entries nexts)).orbit e 0)) n ≡ true)
     unfolding ring_at
-    both d l = and_parts _ _ (all_at (ring_at n at nexts (traced n nexts).orbit) n parts.1 d l)
+    both d l = and_parts _ _ (all_at (ring_at n at nexts (traced n (entries nexts)).orbit) n parts.1 d l)
 
-    in_one : (d e : ℕ) → d < n → e < n → get_or at d 0 ≡ get_or at e 0 → get_or (traced n nexts).orbit d 0 ≡ get_or (traced n nexts).orbit e 0
+    in_one : (d e : ℕ) → d < n → e < n → get_or at d 0 ≡ get_or at e 0 → get_or (traced n (entries nexts)).orbit d 0 ≡ get_or (traced n (entries nexts)).orbit e 0
     in_one d e i j q =
         eqb-true _ _ (rw (eq-eqb (get_or at d 0) (get_or at e 0) q) at
-        (all_at (λ x. not (eqb (get_or at d 0) (get_or at x 0)) || eqb (get_or (traced n nexts).orbit d 0) (get_or (traced n nexts).orbit x 0)) n (both d i).1 e j))
+        (all_at (λ x. not (eqb (get_or at d 0) (get_or at x 0)) || eqb (get_or (traced n (entries nexts)).orbit d 0) (get_or (traced n (entries nexts)).orbit x 0)) n (both d i).1 e j))
 
     one_ring_each : OneRingEach n at nexts
     one_ring_each = record {
       permuted = P;
       stays = λ d l. eqb-true _ _ (both d l).0;
-      joined = λ d e i j q. ((traced_law n nexts fits P).same d e i j).0 (in_one d e i j q);
+      joined = λ d e i j q. ((traced_law n (entries nexts) fits P).same d e i j).0 (in_one d e i j q);
     }
 
   pub rings_refused : (OneRingEach n at nexts → ⊥) → rings_in n at nexts ≡ false

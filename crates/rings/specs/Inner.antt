@@ -10,7 +10,7 @@ use Rattle.digraph.specs.declared.Sorting.{Sorting}
 use Rattle.rings.specs.declared.Darts.{Darts}
 use Rattle.digraph.specs.Relaxed.{levels_of}
 use Rattle.digraph.specs.Inner.{Graph, Settled}
-use Rattle.clauses.specs.Inner.{dart_table, vertex_of}
+use Rattle.clauses.specs.Inner.{dart_table, vertex_of, poles_of}
 
 -- ---- one ring at each vertex
 
@@ -21,14 +21,15 @@ ring_at n at nexts ring d =
 
 -- the next darts permute the n darts and keep to the vertex, and the darts of a vertex are in one ring, as a test
 unfoldable pub rings_in : ℕ → List ℕ → List ℕ → Bool
-rings_in n at nexts = is_permutation n nexts && all_below (ring_at n at nexts (traced n nexts).orbit) n
+rings_in n at nexts = is_permutation n nexts && all_below (ring_at n at nexts (traced n (entries nexts)).orbit) n
 
 unfoldable pub rings_of : ℕ → List ℕ → List ℕ → List ℕ → Bool
 rings_of n tails heads nexts = rings_in n (dart_table (vertex_of tails heads) n) nexts
 
--- the levels, where the rings are right
+-- the levels, where vertex 0 is the only one that is no head and vertex 1 the only one that is no tail, and the rings are right
 unfoldable pub ring_levels : ℕ → ℕ → List ℕ → List ℕ → List ℕ → Layering
-ring_levels n m tails heads nexts = cond (rings_of (2 * m) tails heads nexts) (levels_of n m tails heads) (record { acyclic = false; level = flat })
+ring_levels n m tails heads nexts =
+    cond (poles_of n m tails heads && rings_of (2 * m) tails heads nexts) (levels_of n m tails heads) (record { acyclic = false; level = flat })
 
 -- n darts, with their vertices, are within their arrays
 pub record Readable (n : ℕ) (at : List ℕ) : Type 0 where

@@ -1,12 +1,14 @@
 // The rings and the levels in one pass: whether the next darts of each vertex form one ring of exactly its darts, and the level of each
-// vertex. The vertices are taken in topological order, and the ring of each is walked once.
+// vertex. The vertices are taken in topological order, and the ring of each is walked once. Before that the rule on vertices 0 and 1 is read
+// off the numbers of darts and edges at each vertex, which that order and the walks need.
 // Narrowing is by `as`: there is no `From` for it, and `TryFrom` would have a failing branch where the contracts show that the number fits.
 #![tactic(auto)]
 
 ghost use Rattle.std.specs.Prelude.{◌≡◌, true, false, ◌+◌, ◌*◌, ◌≤◌, ◌<◌};
 ghost use Rattle.digraph.specs.Relaxed.{found};
-ghost use Rattle.digraph.specs.Inner.{Ends, Stepped};
-ghost use Rattle.rings.specs.Inner.{head_of, out_of, Readable, Held, Degrees, OneRingEach, Underway, PassedOn, ring_levels};
+ghost use Rattle.digraph.specs.Inner.{Ends, Waiting, Stepped};
+ghost use Rattle.clauses.specs.Inner.{poles_of};
+ghost use Rattle.rings.specs.Inner.{head_of, out_of, Readable, Held, Degrees, OneRingEach, Placed, Underway, PassedOn, ring_levels};
 
 use clauses::Sheet;
 use digraph::Sorting;
@@ -41,6 +43,20 @@ impl<'a> Darts<'a> {
             degree,
             held,
         }
+    }
+
+    // Whether vertex 0 is the only one of n with no edge into it, and vertex 1 the only one with none out of it: such a vertex has as many darts as edges into
+    // it. `into` has how many lead into each. All are looked at, which takes no branch.
+    fn has_poles(&self, n: usize, into: &[u16; 256]) -> bool
+        requires { (n ≤ 128) × Degrees self.now.count self.now.at self.now.degree }
+        ensures { (P : Placed self.now.count self.now.at) → Waiting P.edges P.to (λ j. true) into.now → result ≡ poles_of n P.edges P.graph.from P.to }
+    {
+        let mut only = true;
+        for (v, &edges_in) in into[..n].iter().enumerate() {
+            only &= (edges_in == 0) == (v == 0);
+            only &= (self.degree[v] == edges_in) == (v == 1);
+        }
+        only
     }
 
     // Passes the edge of dart d, if the dart is at its tail, in a walk round a vertex of level `row`. No branch hangs on the dart.
@@ -98,13 +114,17 @@ impl<'a> Darts<'a> {
     }
 }
 
-// The level of each vertex, where the next darts of each form one ring of exactly its darts and the edges make no circle; else none.
+// The level of each vertex, where vertex 0 is the only one that is no head and vertex 1 the only one that is no tail, the next darts of each vertex
+// form one ring of exactly its darts and the edges make no circle; else none.
 pub fn levels(s: &Sheet) -> Option<[u16; 256]>
     requires { (s.now.vertices ≤ 128) × Ends s.now.vertices s.now.edges s.now.tails × Ends s.now.vertices s.now.edges s.now.heads }
     ensures { result ≡ found (ring_levels s.now.vertices s.now.edges s.now.tails s.now.heads s.now.nexts) }
 {
     let darts = Darts::of(2 * s.edges, s.places(), &s.nexts);
     let mut sorting = Sorting::start(&s.digraph());
+    if !darts.has_poles(s.vertices, &sorting.waiting) {
+        return None;
+    }
     if !darts.settle(&mut sorting) {
         return None;
     }

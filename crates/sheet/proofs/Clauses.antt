@@ -19,6 +19,7 @@ use Rattle.answers.specs.Refusals.{first, answering}
 use Rattle.sheet.specs.Darts.{tail, head, darts}
 use Rattle.sheet.specs.Check.{within_limits, joined, in_rings, unused_zero, rooted, row_levels, acyclic, incoming, outgoing, poles, face_table, planar, sound, judge_by}
 use Rattle.sheet.specs.Inner.{findings_in, bounded, faced_of, judged_of, findings_of}
+use Rattle.clauses.proofs.Below.{dart_at_law}
 use Rattle.clauses.proofs.Touching.{joins_means}
 use Rattle.digraph.specs.Inner.{Ends}
 use Rattle.clauses.specs.Inner.{limits_of, joins_at, zero_at, unused_of, dart_table, walk_of, end_of, pole_at, poles_of, rooted_of}
@@ -53,12 +54,12 @@ limits_most n m t =
     let (two, _) = (and-eq-true_iff (leb 2 n && leb n 128) (leb 2 m)).0 three in
     (leb-true n 128 ((and-eq-true_iff (leb 2 n) (leb n 128)).0 two).1, leb-true m 256 most)
 
-pub few_orbits : (n : ℕ) (step : List ℕ) (f : Traced) → f ≡ traced n step → f.count ≤ n
+pub few_orbits : (n : ℕ) (step : ℕ → ℕ) (f : Traced) → f ≡ traced n step → f.count ≤ n
 few_orbits n step f e = rw e (count_law n step)
 
 -- by the number of faces
 faced_is : (s : Sheet) → faced_of s.vertices s.edges s.nexts (row_levels s).level ≡ cond (planar s) (Some (findings_in s)) None
-unfolding faced_of planar findings_in face_table dart_table walk_of
+unfolding faced_of planar findings_in face_table walk_of
 faced_is s = refl
 
 -- or a refusal
@@ -69,26 +70,23 @@ judged_by : (circle bars : Refusal) (s : Sheet) → rooted s ≡ true → acycli
 unfolding judged_of judge_by first answering
 judged_by circle bars s r a p = rw (r, a, p) (by_bool (planar s) (λ t. rw t refl) (λ t. rw t refl))
 
-pub face_refused : (n m : ℕ) (nexts rows walk : List ℕ) → walk ≡ dart_table (walk_of nexts) (2 * m) → (f : Traced) → f ≡ traced (2 * m) walk → (n + f.count ≡ m + 2 → ⊥)
-    → None ≡ faced_of n m nexts rows
-unfolding faced_of
-face_refused n m nexts rows walk we f fe q =
-    let z = fe ∙ ap (traced (2 * m)) we in
-    let b = ne_eqb (n + f.count) (m + 2) q in
-    rw (← z, b) refl
+-- the walk, looked up in its table
+pub walked : (m : ℕ) (nexts walk : List ℕ) → walk ≡ dart_table (walk_of nexts) (2 * m) → (d x : ℕ) → d < 2 * m → x ≡ get_or walk d 0 → x ≡ walk_of nexts d
+walked m nexts walk e d x h q = q ∙ ap (λ (l : List ℕ). get_or l d 0) e ∙ dart_at_law (walk_of nexts) (2 * m) d h
 
-pub face_met : (n m : ℕ) (nexts rows walk : List ℕ) → walk ≡ dart_table (walk_of nexts) (2 * m) → (f : Traced) → f ≡ traced (2 * m) walk → n + f.count ≡ m + 2
-    → Some (record { rows = rows; faces = f.orbit; count = f.count }) ≡ faced_of n m nexts rows
-unfolding faced_of
-face_met n m nexts rows walk we f fe q =
-    let z = fe ∙ ap (traced (2 * m)) we in
-    let b = eq-eqb (n + f.count) (m + 2) q in
-    rw (← z, b) refl
+module _ (n m : ℕ) (nexts rows : List ℕ) (f : Traced) (e : f ≡ traced (2 * m) (walk_of nexts)) where
+  pub face_refused : (n + f.count ≡ m + 2 → ⊥) → None ≡ faced_of n m nexts rows
+  unfolding faced_of
+  face_refused q = let b = ne_eqb (n + f.count) (m + 2) q in rw (← e, b) refl
+
+  pub face_met : n + f.count ≡ m + 2 → Some (record { rows = rows; faces = f.orbit; count = f.count }) ≡ faced_of n m nexts rows
+  unfolding faced_of
+  face_met q = let b = eq-eqb (n + f.count) (m + 2) q in rw (← e, b) refl
 
 module _ (n m : ℕ) (tails heads : List ℕ) where
-  pub joined_ends : (b : ℕ) → n ≤ b → m ≤ 256 → all_below (joins_at n tails heads) m ≡ true → Ends b m tails × Ends b m heads
+  joined_ends : m ≤ 256 → all_below (joins_at n tails heads) m ≡ true → Ends n m tails × Ends n m heads
   unfolding joins_at
-  joined_ends b l few a = (record { few = few; inside = λ k h. omega (arith, (ends k h).0) }, record { few = few; inside = λ k h. omega (arith, (ends k h).1) })
+  joined_ends few a = (record { few = few; inside = λ k h. (ends k h).0 }, record { few = few; inside = λ k h. (ends k h).1 })
     where
       ends : (k : ℕ) → k < m → (get_or tails k 0 < n) × (get_or heads k 0 < n) × (get_or tails k 0 ≢ get_or heads k 0)
       ends k h = joins_means n (get_or tails k 0) (get_or heads k 0) (all_at (joins_at n tails heads) m a k h)
@@ -138,13 +136,14 @@ of_digraph (en, em, ef, et) e = rw (en, em, ef, et) at e
 
 -- what a record within its bounds tells the next tests
 pub bounded_ends : (s : Sheet) → bounded s ≡ true
-    → (s.vertices ≤ 128) × (s.edges ≤ 256) × ((b : ℕ) → s.vertices ≤ b → Ends b s.edges s.tails × Ends b s.edges s.heads)
+    → (s.vertices ≤ 128) × (s.edges ≤ 256) × Ends s.vertices s.edges s.tails × Ends s.vertices s.edges s.heads
 bounded_ends s t =
     let joins = all_below (joins_at s.vertices s.tails s.heads) s.edges in
     let (x, _) = (and-eq-true_iff (limits_of s.vertices s.edges && joins) (unused_of s.edges s.tails s.heads s.nexts)).0 (sym (bounded_is s) ∙ t) in
     let (l, j) = (and-eq-true_iff (limits_of s.vertices s.edges) joins).0 x in
     let (n, m) = limits_most s.vertices s.edges l in
-    (n, m, λ b h. joined_ends s.vertices s.edges s.tails s.heads b h m j)
+    let (tails, heads) = joined_ends s.vertices s.edges s.tails s.heads m j in
+    (n, m, tails, heads)
 
 module _ (s : Sheet) where
   pub judged_refused : (circle bars r : Refusal) → judged_of circle bars s ≡ Err r → judge_by circle bars s ≡ Err r
@@ -190,35 +189,36 @@ module _ (s : Sheet) where
   unfolding rooted rooted_of
   not_rooted f t = let (_, _, _, _, r, _, _, _) = sound_parts t in true≢false (sym r ∙ f)
 
-  pub no_poles : poles_of s.vertices s.edges s.tails s.heads ≡ false → sound s ≡ true → ⊥
-  no_poles f t = let (_, _, _, _, _, _, p, _) = sound_parts t in true≢false (sym p ∙ poles_is s ∙ f)
+  -- vertices 0 and 1 and the rings are right; the rows are found with them
+  abbrev poles_and_rings : Bool
+  poles_and_rings = poles_of s.vertices s.edges s.tails s.heads && rings_of (darts s) s.tails s.heads s.nexts
 
-  -- rings and rows, found together
-  with_rings : rings_of (darts s) s.tails s.heads s.nexts ≡ true → ring_levels s.vertices s.edges s.tails s.heads s.nexts ≡ row_levels s
+  with_rings : poles_and_rings ≡ true → ring_levels s.vertices s.edges s.tails s.heads s.nexts ≡ row_levels s
   unfolding ring_levels row_levels
   with_rings t = rw t refl
 
   pub no_levels : None ≡ found (ring_levels s.vertices s.edges s.tails s.heads s.nexts) → sound s ≡ true → ⊥
   unfolding acyclic
   no_levels e t =
-      let (_, _, r, _, _, a, _, _) = sound_parts t in
-      true≢false (sym a ∙ found_none (row_levels s) (e ∙ ap found (with_rings (sym (rings_are s) ∙ r))))
+      let (_, _, r, _, _, a, p, _) = sound_parts t in
+      true≢false (sym a ∙ found_none (row_levels s) (e ∙ ap found (with_rings (rw (sym (poles_is s) ∙ p, sym (rings_are s) ∙ r) refl))))
 
   -- all clauses but the last are met
   module _ (rows : List ℕ) (e : Some rows ≡ found (ring_levels s.vertices s.edges s.tails s.heads s.nexts)) where
-    rings_in_law : rings_of (darts s) s.tails s.heads s.nexts ≡ true
+    both_right : poles_and_rings ≡ true
     unfolding ring_levels
-    rings_in_law = by_bool (rings_of (darts s) s.tails s.heads s.nexts) (λ t. t) (λ f. let q = rw f at e in cc)
+    both_right = by_bool poles_and_rings (λ t. t) (λ f. let q = rw f at e in cc)
 
-    pub by_all : bounded s ≡ true → rooted_of s.tails s.heads ≡ true → poles_of s.vertices s.edges s.tails s.heads ≡ true
+    pub by_all : bounded s ≡ true → rooted_of s.tails s.heads ≡ true
         → (f : Result Findings Refusal) → f ≡ ok_or (faced_of s.vertices s.edges s.nexts rows) NotSound → f ≡ findings_of s
     unfolding findings_of sound bounded rooted rooted_of acyclic
-    by_all b r p f q =
-        let (a, level) = found_some (row_levels s) rows (e ∙ ap found (with_rings rings_in_law)) in
+    by_all b r f q =
+        let (a, level) = found_some (row_levels s) rows (e ∙ ap found (with_rings both_right)) in
+        let (p, rings) = (and-eq-true_iff (poles_of s.vertices s.edges s.tails s.heads) (rings_of (darts s) s.tails s.heads s.nexts)).0 both_right in
         let (x, u) = (and-eq-true_iff (within_limits s && joined s) (unused_zero s)).0 b in
         let (y, j) = (and-eq-true_iff (within_limits s) (joined s)).0 x in
         q ∙ ap (λ l. ok_or (faced_of s.vertices s.edges s.nexts l) NotSound) level ∙ faced_or s NotSound
-        ∙ rw (y, j, rings_are s ∙ rings_in_law, u, r, a, poles_is s ∙ p) refl
+        ∙ rw (y, j, rings_are s ∙ rings, u, r, a, poles_is s ∙ p) refl
 
   pub findings_answer : is_ok (findings_of s) ≡ sound s
   unfolding findings_of

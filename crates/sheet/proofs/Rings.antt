@@ -23,7 +23,7 @@ in_ring_agree at at' next ring n h d l i =
 pub rings_are : (s : Sheet) → in_rings s ≡ rings_of (darts s) s.tails s.heads s.nexts
 unfolding in_rings rings_of rings_in ring_at vertex vertex_of
 rings_are s =
-    let ring : ℕ → ℕ = λ d. get_or (traced (darts s) s.nexts).orbit d 0 in
+    let ring : ℕ → ℕ = λ d. get_or (traced (darts s) (next s)).orbit d 0 in
     let at : ℕ → ℕ = λ d. get_or (dart_table (vertex_of s.tails s.heads) (darts s)) d 0 in
     by_bool (is_permutation (darts s) s.nexts) (λ t. rw t (all_agree (in_ring (vertex s) (next s) ring (darts s)) (in_ring at (next s) ring (darts s)) (darts s) (λ d l.
     in_ring_agree (vertex s) at (next s) ring (darts s) (λ e i. sym (dart_at_law (vertex_of s.tails s.heads) (darts s) e i)) d l (((permutation_law (darts s) s.nexts).0 t).1.below d l))))

@@ -1,7 +1,7 @@
 -- Soundness as a test that computes, clause by clause; and rows, faces and columns as functions.
-use Rattle.std.specs.Prelude.{ℕ, ◌+◌, ◌-◌, Bool, cond, not, ◌&&◌, ◌||◌, List, [], ◌∷◌, ◌++◌, eqb, ltb, leb, get_or, replicate}
+use Rattle.std.specs.Prelude.{ℕ, ◌+◌, Bool, cond, not, ◌&&◌, ◌||◌, List, [], ◌∷◌, eqb, ltb, leb, get_or}
 use Rattle.std.specs.Bool.{beq}
-use Rattle.counting.specs.Below.{all_below, some_below, tabulate, table}
+use Rattle.counting.specs.Below.{all_below, some_below, table}
 use Rattle.orbits.specs.declared.Traced.{Traced}
 use Rattle.orbits.specs.Tables.{traced, is_permutation}
 use Rattle.digraph.specs.Digraph.{Layering}
@@ -25,7 +25,7 @@ joined s = all_below (λ k. ltb (tail s k) s.vertices && ltb (head s k) s.vertic
 -- the next-ends of each bar form one ring of exactly its ends: they permute the ends, keep to the bar, and two ends of one bar lie in one orbit
 unfoldable pub in_rings : Sheet → Bool
 in_rings s =
-    let rings = traced (darts s) s.nexts in
+    let rings = traced (darts s) (next s) in
     is_permutation (darts s) s.nexts && all_below (λ d. eqb (vertex s (next s d)) (vertex s d)
     && all_below (λ e. not (eqb (vertex s d) (vertex s e)) || eqb (get_or rings.orbit d 0) (get_or rings.orbit e 0)) (darts s)) (darts s)
 
@@ -62,7 +62,7 @@ poles s = all_below (λ v. beq (incoming s v) (not (eqb v 0)) && beq (outgoing s
 
 -- The faces, each traced once: the number of the face of the walk that leaves its bar by end d, and how many faces there are.
 unfoldable pub face_table : Sheet → Traced
-face_table s = traced (darts s) (tabulate (walk s) (darts s) ++ replicate (512 - darts s) 0)
+face_table s = traced (darts s) (walk s)
 
 abbrev pub face : Sheet → ℕ → ℕ
 face s d = get_or (face_table s).orbit d 0

@@ -1,7 +1,7 @@
 -- What the check of a sheet finds: its refusal, or the rows and the faces that later steps go on with.
 use Rattle.std.specs.Prelude.{ℕ, ◌+◌, ◌*◌, Bool, cond, ◌&&◌, List, eqb, Option, Some, None, Result, Ok, Err}
 use Rattle.orbits.specs.Tables.{traced}
-use Rattle.clauses.specs.Inner.{dart_table, walk_of}
+use Rattle.clauses.specs.Inner.{walk_of}
 use Rattle.clauses.specs.declared.Sheet.{Sheet}
 use Rattle.answers.specs.declared.Refusal.{Refusal}
 use Rattle.answers.specs.declared.Refusal.TheVariants.{NotSound}
@@ -23,7 +23,7 @@ bounded s = within_limits s && joined s && unused_zero s
 -- by the number of faces of m edges, where all else is met: n vertices with these rows
 unfoldable pub faced_of : ℕ → ℕ → List ℕ → List ℕ → Option Findings
 faced_of n m nexts rows =
-    let faces = traced (2 * m) (dart_table (walk_of nexts) (2 * m)) in
+    let faces = traced (2 * m) (walk_of nexts) in
     cond (eqb (n + faces.count) (m + 2)) (Some (record { rows = rows; faces = faces.orbit; count = faces.count })) None
 
 -- by the other four

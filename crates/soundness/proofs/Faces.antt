@@ -1,39 +1,25 @@
 -- The faces of a sheet, and what the test of Euler's formula says. Assumes nothing.
-use Rattle.std.proofs.Common.{◌≡◌, sym, ◌∙◌, ap, ℕ, ◌+◌, ◌-◌, ◌≤◌, ◌<◌, arith, List, ◌++◌, replicate}
-use Rattle.counting.specs.Below.{tabulate}
+use Rattle.std.proofs.Common.{◌≡◌, sym, ◌∙◌, ap, ℕ, ◌+◌, ◌≤◌, arith}
 use Rattle.counting.specs.Orbits.{Perm}
-use Rattle.counting.proofs.Orbits.{orbits_agree, number_unique}
-use Rattle.orbits.specs.Meaning.{entries}
+use Rattle.counting.proofs.Orbits.{number_unique}
+use Rattle.orbits.specs.Meaning.{Numbering}
 use Rattle.orbits.proofs.Numbering.{traced_law}
 use Rattle.clauses.specs.declared.Sheet.{Sheet}
 use Rattle.clauses.specs.Darts.{opposite}
 use Rattle.sheet.specs.Darts.{darts, walk}
 use Rattle.sheet.specs.Sound.{Faces, Euler}
 use Rattle.sheet.specs.Check.{face_table, face, face_count, planar}
-use Rattle.counting.proofs.Below.{get_d_tabulated}
 use Rattle.soundness.proofs.Tests.{Says, eq_says, reworded}
 use Rattle.sheet.proofs.Darts.{opposite_below, opposite_opposite}
 use Rattle.soundness.proofs.Rings.{Rotation}
 
-module _ (s : Sheet) (few : s.edges ≤ 256) (p : Perm (darts s) (walk s)) where
-  -- the walk as a table
-  walks : List ℕ
-  walks = tabulate (walk s) (darts s) ++ replicate (512 - darts s) 0
+-- the faces of a sheet whose walk permutes the darts, in the order of their lowest darts
+pub walk_numbering : (s : Sheet) → s.edges ≤ 256 → Perm (darts s) (walk s) → Numbering (darts s) (walk s) (face_table s)
+unfolding face_table
+walk_numbering s few p = traced_law (darts s) (walk s) (omega arith) p
 
-  walks_at : (d : ℕ) → d < darts s → entries walks d ≡ walk s d
-  unfolding walks
-  walks_at d h = get_d_tabulated (walk s) (replicate (512 - darts s) 0) 0 (darts s) d h
-
-  walks_perm : Perm (darts s) (entries walks)
-  walks_perm = record {
-    below = λ d h. rw (walks_at d h) (p.below d h);
-    one_one = λ d e h k q. p.one_one d e h k (sym (walks_at d h) ∙ q ∙ walks_at e k);
-  }
-
-  -- the faces of a sheet whose walk permutes the darts
-  pub walk_faces : Faces s (face s) (face_count s)
-  unfolding walks face_table
-  walk_faces = orbits_agree (walk s) walks_perm (λ d h. sym (walks_at d h)) (traced_law (darts s) walks (omega arith) walks_perm).orbits
+pub walk_faces : (s : Sheet) → s.edges ≤ 256 → Perm (darts s) (walk s) → Faces s (face s) (face_count s)
+walk_faces s few p = (walk_numbering s few p).orbits
 
 module _ (s : Sheet) (few : s.edges ≤ 256) (r : Rotation s) where
   pub walk_perm : Perm (darts s) (walk s)

@@ -1,6 +1,6 @@
 -- The fresh sheet is sound.
 use Rattle.std.proofs.Common.{◌≡◌, refl, true}
-use Rattle.counting.specs.Below.{all_below, some_below, tabulate}
+use Rattle.counting.specs.Below.{all_below, some_below}
 use Rattle.orbits.specs.Tables.{traced, trace_from, walk_from, unnumbered_below, is_permutation, permutes_from}
 use Rattle.digraph.specs.Digraph.{flat}
 use Rattle.digraph.specs.Relaxed.{levels_of, rounds, relaxed, raised, climbs, joins, within_of, answer}
@@ -17,7 +17,7 @@ fresh_sized = record { tails = refl; heads = refl; nexts = refl }
 
 -- computed
 fresh_passes : sound fresh_sheet ≡ true
-unfolding fresh_sheet sound within_limits joined in_rings unused_zero rooted acyclic row_levels poles incoming outgoing planar face_table vertex opposite all_below some_below tabulate traced trace_from walk_from unnumbered_below is_permutation permutes_from levels_of rounds relaxed raised climbs joins within_of answer flat
+unfolding fresh_sheet sound within_limits joined in_rings unused_zero rooted acyclic row_levels poles incoming outgoing planar face_table vertex opposite all_below some_below traced trace_from walk_from unnumbered_below is_permutation permutes_from levels_of rounds relaxed raised climbs joins within_of answer flat
 fresh_passes = refl
 
 pub fresh_law : FreshLaw

@@ -39,10 +39,10 @@ module _ (s : Sheet) where
       (λ r. ((omega arith, r.perm), λ d h. (r.keeps d h, λ e k q. ((numbering r.perm).same d e h k).1 (r.ring d e h k q))))
     where
       orbit : ℕ → ℕ
-      orbit d = get_or (traced (darts s) s.nexts).orbit d 0
+      orbit d = get_or (traced (darts s) (next s)).orbit d 0
 
-      numbering : Perm (darts s) (next s) → Numbering (darts s) s.nexts (traced (darts s) s.nexts)
-      numbering P = traced_law (darts s) s.nexts (omega arith) P
+      numbering : Perm (darts s) (next s) → Numbering (darts s) (next s) (traced (darts s) (next s))
+      numbering P = traced_law (darts s) (next s) (omega arith) P
 
   pub rotation_rings : Rotation s → (v : ℕ) → Ring s v
   rotation_rings r v = record {

@@ -160,7 +160,9 @@ impl Reader<'_> {
         Some(read)
     }
 
-    // A whole line that may have two numbers only. They go through no array, whose stores a read of the whole would wait for.
+    // A whole line that may have two numbers only. They go through no array, whose stores a read of the whole would wait for. Made part of its callers, which
+    // know the key: as a call of its own it cost load 3 to 5 %.
+    #[inline(always)]
     #[tactic(auto, using(crate::proofs::Pairs::pair_steps))]
     pub fn pair_line(&mut self, key: &[u8]) -> Option<(u16, u16)>
         ensures text { self.new.text.now ≡ self.old.text.now }
