@@ -17,6 +17,7 @@ pub mod sheet;
 pub mod sound;
 pub mod text;
 pub mod trace;
+pub mod trace_faces;
 pub mod write;
 
 pub use directions::{permitted, same_links};
@@ -29,4 +30,5 @@ pub use read_edit::read_edit;
 pub use sheet::{Answer, Sheet, MAX_DARTS, MAX_EDGES, MAX_VERTICES};
 pub use sound::is_sound;
 pub use trace::trace;
+pub use trace_faces::trace_faces;
 pub use write::{write_drawing, write_sheet};
