@@ -1,12 +1,10 @@
 //! Time of the proved calls as a ratio to plain Rust and to the reference implementation, all in one run on the same inputs.
 
-mod plain;
-mod timing;
-
+use bench::plain;
+use bench::timing::{several, times};
 use reference::generate::{digraph, edit_line, edits, grown, likely_edit, mixed_ends, permutation, renumbered, sheet_text, sheets, Random};
 use reference::{Edit, Sheet};
 use std::hint::black_box;
-use timing::{several, times};
 
 /// The times of the three sides, round by round in turn, as a line of the table.
 fn compare<Input, P, Q, R>(

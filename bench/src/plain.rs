@@ -28,12 +28,13 @@ struct Survey {
     faces: Faces,
 }
 
-struct Faces {
+/// How many faces there are, and the face of each dart's walk.
+pub struct Faces {
     count: usize,
-    of: [u16; MAX_DARTS],
+    pub of: [u16; MAX_DARTS],
 }
 
-fn next(s: &Sheet, dart: usize) -> usize {
+pub fn next(s: &Sheet, dart: usize) -> usize {
     usize::from(s.nexts[dart])
 }
 
@@ -164,6 +165,14 @@ fn survey(s: &Sheet) -> Option<Survey> {
 
 pub fn is_sound(s: &Sheet) -> bool {
     survey(s).is_some()
+}
+
+pub fn trace_faces(s: &Sheet) -> (u16, [u16; MAX_DARTS]) {
+    let mut table = [0; MAX_DARTS];
+    let Some(survey) = survey(s) else { return (9, table) };
+    let ends = 2 * s.edges;
+    table[..ends].copy_from_slice(&survey.faces.of[..ends]);
+    (0, table)
 }
 
 /// A text and the place in it.
@@ -560,17 +569,17 @@ pub fn write_sheet(s: &Sheet, buffer: &mut [u8]) -> (u16, usize) {
 }
 
 /// The column of each face: every edge but edge 0 leads from its left face to its right face.
-fn columns(s: &Sheet, faces: &Faces) -> [u16; 256] {
+fn columns(s: &Sheet, faces: usize, face: impl Fn(usize) -> u16) -> [u16; 256] {
     let (mut from, mut to) = ([0; MAX_EDGES], [0; MAX_EDGES]);
     for k in 0..s.edges {
-        (from[k], to[k]) = (faces.of[2 * k], faces.of[2 * k + 1]);
+        (from[k], to[k]) = (face(2 * k), face(2 * k + 1));
     }
     (from[0], to[0]) = (to[0], from[0]);
-    levels(faces.count, s.edges, &from, &to).expect("no circle among the faces")
+    levels(faces, s.edges, &from, &to).expect("no circle among the faces")
 }
 
-fn drawing(s: &Sheet, survey: &Survey) -> Writer {
-    let by_face = columns(s, &survey.faces);
+fn drawing(s: &Sheet, survey: &Survey, face: impl Fn(&Faces, usize) -> u16) -> Writer {
+    let by_face = columns(s, survey.faces.count, |walk| face(&survey.faces, walk));
     // The column after the last of each vertex: that of the face to its right, which lies right of its upward edges.
     let (mut first, mut after, mut columns) = ([u16::MAX; MAX_VERTICES], [0; MAX_VERTICES], [0; MAX_EDGES]);
     for k in 0..s.edges {
@@ -605,8 +614,13 @@ fn drawing(s: &Sheet, survey: &Survey) -> Writer {
 }
 
 pub fn write_drawing(s: &Sheet, buffer: &mut [u8]) -> (u16, usize) {
+    write_drawing_by(s, buffer, |faces, walk| faces.of[walk])
+}
+
+/// The same, where `face` tells for the columns in which face a walk lies.
+pub fn write_drawing_by(s: &Sheet, buffer: &mut [u8], face: impl Fn(&Faces, usize) -> u16) -> (u16, usize) {
     match survey(s) {
-        Some(survey) => drawing(s, &survey).lend(buffer),
+        Some(survey) => drawing(s, &survey, face).lend(buffer),
         None => (9, 0),
     }
 }
@@ -689,6 +703,8 @@ mod tests {
     fn records() {
         for s in Records::new(71).take(3_000) {
             assert_eq!(is_sound(&s), reference::is_sound(&s));
+            let (answer, faces) = reference::trace_faces(&s);
+            assert_eq!(trace_faces(&s), (number(answer), faces));
             for room in [0, 3_000, TEXT] {
                 same_text(|buffer| write_sheet(&s, buffer), |buffer| reference::write_sheet(&s, buffer), room);
                 same_text(|buffer| write_drawing(&s, buffer), |buffer| reference::write_drawing(&s, buffer), room);

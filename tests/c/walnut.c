@@ -130,6 +130,36 @@ static void check_load_links(void) {
     check(load_links(&s, "", &taken) == 0 && taken == 0 && same_sheet(&s, &fresh), "no bytes of links give the fresh sheet, 0 bytes taken");
 }
 
+/* `faces` holds the entries of the front, and 0 past them. */
+static bool same_faces(const uint16_t faces[WALNUT_ENDS], const uint16_t *front, size_t length) {
+    size_t end = 0;
+    while (end < WALNUT_ENDS && faces[end] == (end < length ? front[end] : 0)) end++;
+    return end == WALNUT_ENDS;
+}
+
+static uint16_t trace_faces(const walnut_sheet *s, uint16_t faces[WALNUT_ENDS]) {
+    for (size_t end = 0; end < WALNUT_ENDS; end++) faces[end] = 999;
+    return walnut_trace_faces(WALNUT_READ(s), faces);
+}
+
+static void check_trace_faces(void) {
+    /* P4 has the rings 2,6,0 and 1,9,5 and 4,10,3 and 8,7,11 of ends. A walk that leaves by an end arrives by the other end of the
+     * wire and leaves by the next one in its ring: by 0,9,7 in face 0, by 1,2,4 in face 1, by 3,6,11 in face 2, by 5,10,8 in face 3. */
+    static const uint16_t of_fresh[4] = {0, 1, 1, 0}, of_p4[12] = {0, 1, 1, 2, 1, 3, 2, 0, 3, 0, 3, 2};
+    walnut_sheet s = WALNUT_FRESH_SHEET;
+    uint16_t faces[WALNUT_ENDS];
+    size_t taken;
+    check(trace_faces(&s, faces) == 0 && same_faces(faces, of_fresh, 4), "the fresh sheet has two faces");
+    check(load(&s, p4, &taken) == 0 && trace_faces(&s, faces) == 0 && same_faces(faces, of_p4, 12), "P4 has its four faces");
+    s.nexts[511] = 1;
+    check(trace_faces(&s, faces) == 9 && same_faces(faces, NULL, 0), "an unused entry of 1 is refused 9, with zeros");
+    s.nexts[511] = 0;
+    s.nexts[0] = 0, s.nexts[6] = 2;
+    check(trace_faces(&s, faces) == 9 && same_faces(faces, NULL, 0), "two rings at bar 0 are refused 9, with zeros");
+    s.bars = SIZE_MAX;
+    check(trace_faces(&s, faces) == 9 && same_faces(faces, NULL, 0), "so are more bars than there can be");
+}
+
 static void check_writers(void) {
     walnut_sheet s;
     size_t taken, count = 99;
@@ -258,6 +288,7 @@ static void check_graphs(void) {
 int main(void) {
     check_load();
     check_load_links();
+    check_trace_faces();
     check_writers();
     check_edits();
     check_read_edit();

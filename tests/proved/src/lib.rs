@@ -31,6 +31,14 @@ mod calls {
             heads: &[u16; 256],
             nexts: &[u16; 512],
         ) -> bool;
+        pub fn walnut_trace_faces(
+            vertices: usize,
+            edges: usize,
+            tails: &[u16; 256],
+            heads: &[u16; 256],
+            nexts: &[u16; 512],
+            faces: &mut [u16; 512],
+        ) -> u16;
         pub fn walnut_load(
             text: *const u8,
             length: usize,
@@ -129,6 +137,23 @@ pub fn is_sound(sheet: &Sheet) -> bool {
     unsafe {
         calls::walnut_is_sound(sheet.vertices, sheet.edges, &sheet.tails, &sheet.heads, &sheet.nexts)
     }
+}
+
+/// The table of faces: the answer's number (0 for acceptance), and the number of the face of each end's walk. The table is
+/// lent full of a number that no face has, which would show where the call leaves it.
+pub fn trace_faces(sheet: &Sheet) -> (u16, [u16; 512]) {
+    let mut faces = [999; 512];
+    let number = unsafe {
+        calls::walnut_trace_faces(
+            sheet.vertices,
+            sheet.edges,
+            &sheet.tails,
+            &sheet.heads,
+            &sheet.nexts,
+            &mut faces,
+        )
+    };
+    (number, faces)
 }
 
 /// A load under its C name.

@@ -1,14 +1,11 @@
 //! Time of the proved load of links as a ratio to the reference implementation, and to the load of the sheet that it
 //! returns, written out; all in one run on the same links.
 
-mod shapes;
-#[path = "../../timing.rs"]
-mod timing;
-
+use bench::shapes;
+use bench::timing::{several, times};
 use reference::generate::{grown, link_text, renumbered, sheet_text, sheets, Random};
 use reference::Sheet;
 use std::hint::black_box;
-use timing::{several, times};
 
 /// A text of links, and that of the sheet which its load returns.
 struct Texts {

@@ -1,4 +1,4 @@
-//! Links to time the load of links on, each a record of which the directions mean nothing: such as take many steps for their
+//! Links to take times on, each a record of which the directions mean nothing: such as take many steps for their
 //! count, or few.
 
 use reference::generate::records::from_rings;

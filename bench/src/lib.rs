@@ -1,0 +1,5 @@
+//! What the programs that take times share.
+
+pub mod plain;
+pub mod shapes;
+pub mod timing;
