@@ -118,6 +118,19 @@ uint16_t walnut_write_drawing(size_t bars, size_t wires, const uint16_t tails[WA
                               const uint16_t heads[WALNUT_WIRES], const uint16_t nexts[WALNUT_ENDS], uint8_t *buffer,
                               size_t length, size_t *count);
 
+/* Check drawing: whether the text, of `length` bytes, is a drawing of the sheet, in the layout that write drawing has, in
+ * which nothing touches that may not and the wires of every bar stand in clockwise order. The drawing may be any program's,
+ * or made by hand: its rows and columns may be larger than ours, up to 998, its bars longer, and another face may be outside.
+ * Answers 0, or 9, or the first of these that holds of the whole drawing:
+ * 20 the text hasn't the lines `rows=`, `columns=`, one `bar=` for each bar and one `wire=` for each wire of this sheet,
+ *    each ended by byte 10 alone, and nothing else; or a bar's first column exceeds its last, or a wire's tail row isn't
+ *    below its head row, or a row or column isn't below the number that the first two lines declare;
+ * 21 a wire doesn't begin on its own tail bar and end on its own head bar, or two segments share a point that they may not;
+ * 22 the wires of a bar stand in another order than the sheet's. */
+uint16_t walnut_check_drawing(size_t bars, size_t wires, const uint16_t tails[WALNUT_WIRES],
+                              const uint16_t heads[WALNUT_WIRES], const uint16_t nexts[WALNUT_ENDS], const uint8_t *text,
+                              size_t length);
+
 /* What the program `plate` prints for the input, in the front of the buffer; its length goes to `count`, the rest of the
  * buffer keeps its bytes. Refusals of the input are part of what it prints. Answers 0, or 17 for a buffer shorter than
  * WALNUT_PLATE_OUTPUT; then nothing is written and `count` gets 0. */

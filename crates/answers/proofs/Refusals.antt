@@ -2,7 +2,7 @@
 use Rattle.std.proofs.Common.{◌≤◌, arith, ◌≡◌, refl, ◌↔◌, Bool, true, false, not, List, [], ◌∷◌, Ok, Err}
 use Rattle.std.proofs.lemmas.Bool.{false≢true}
 use Rattle.answers.specs.declared.Refusal.{Refusal}
-use Rattle.answers.specs.declared.Refusal.TheVariants.{BadLayout, CountOutOfLimits, BadEdge, BadRotation, BadRoot, Cyclic, BadPoles, NotPlanar, NotSound, NotInSheet, Full, RootEdge, CornersApart, ClosesCircle, EdgeNeeded, VertexNeeded, BufferTooShort, InputTooLong, NotOrientable}
+use Rattle.answers.specs.declared.Refusal.TheVariants.{BadLayout, CountOutOfLimits, BadEdge, BadRotation, BadRoot, Cyclic, BadPoles, NotPlanar, NotSound, NotInSheet, Full, RootEdge, CornersApart, ClosesCircle, EdgeNeeded, VertexNeeded, BufferTooShort, InputTooLong, NotOrientable, BadDrawing, Contact, OutOfOrder}
 use Rattle.answers.specs.Answers.{Answer, refusal_number}
 use Rattle.answers.specs.Refusals.{Test, first, ◌if◌, is_accepted, answering}
 
@@ -38,8 +38,8 @@ module _ {A : Type 0} (a : Answer) (value : Unit {0} → A) where
   unfolding answering
   answering_accepted e v q = rw (e, q) refl
 
--- a refusal has a number from 1 to 19
-pub refusal_within : (r : Refusal) → (1 ≤ refusal_number r) × (refusal_number r ≤ 19)
+-- a refusal has a number from 1 to 22
+pub refusal_within : (r : Refusal) → (1 ≤ refusal_number r) × (refusal_number r ≤ 22)
 unfolding refusal_number
 refusal_within BadLayout = (omega arith, omega arith)
 refusal_within CountOutOfLimits = (omega arith, omega arith)
@@ -60,6 +60,9 @@ refusal_within VertexNeeded = (omega arith, omega arith)
 refusal_within BufferTooShort = (omega arith, omega arith)
 refusal_within InputTooLong = (omega arith, omega arith)
 refusal_within NotOrientable = (omega arith, omega arith)
+refusal_within BadDrawing = (omega arith, omega arith)
+refusal_within Contact = (omega arith, omega arith)
+refusal_within OutOfOrder = (omega arith, omega arith)
 
 pub refusal_nonzero : (r : Refusal) → refusal_number r ≡ 0 → ⊥
 refusal_nonzero r e = omega (arith, (refusal_within r).0, e)

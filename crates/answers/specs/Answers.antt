@@ -1,7 +1,7 @@
 -- What a call answers, and the numbers of documents 01 and 02: 0 for acceptance, else the refusal number.
 use Rattle.std.specs.Prelude.{ℕ, Result, Ok, Err}
 use Rattle.answers.specs.declared.Refusal.{Refusal}
-use Rattle.answers.specs.declared.Refusal.TheVariants.{BadLayout, CountOutOfLimits, BadEdge, BadRotation, BadRoot, Cyclic, BadPoles, NotPlanar, NotSound, NotInSheet, Full, RootEdge, CornersApart, ClosesCircle, EdgeNeeded, VertexNeeded, BufferTooShort, InputTooLong, NotOrientable}
+use Rattle.answers.specs.declared.Refusal.TheVariants.{BadLayout, CountOutOfLimits, BadEdge, BadRotation, BadRoot, Cyclic, BadPoles, NotPlanar, NotSound, NotInSheet, Full, RootEdge, CornersApart, ClosesCircle, EdgeNeeded, VertexNeeded, BufferTooShort, InputTooLong, NotOrientable, BadDrawing, Contact, OutOfOrder}
 
 unfoldable pub refusal_number : Refusal → ℕ
 -- text or line not of the layout
@@ -42,6 +42,13 @@ refusal_number BufferTooShort = 17
 refusal_number InputTooLong = 18
 -- no choice of directions makes the rules on circles and on bars 0 and 1 hold
 refusal_number NotOrientable = 19
+-- a drawing's text hasn't the line layout and line counts for the sheet, or a bar's first column exceeds its last, or a tail row isn't below its head row, or
+-- a row or column isn't below the number declared
+refusal_number BadDrawing = 20
+-- a wire end is off its bar or a forbidden point is shared
+refusal_number Contact = 21
+-- a ring is in another order
+refusal_number OutOfOrder = 22
 
 -- Acceptance, or a refusal.
 abbrev pub Answer : Type 0

@@ -26,6 +26,9 @@ pub enum Refusal {
     BufferTooShort = 17,
     InputTooLong = 18,
     NotOrientable = 19,
+    BadDrawing = 20,
+    Contact = 21,
+    OutOfOrder = 22,
 }
 
 impl Refusal {

@@ -1,5 +1,5 @@
 -- Texts one after the other, and how long they are. Assumes nothing.
-use Rattle.std.proofs.Common.{ℕ, zero, suc, ◌+◌, ◌*◌, ◌≤◌, ◌<◌, ◌≡◌, refl, ap, ◌∙◌, List, ◌++◌, suc-mul, add-one, arith, length, length-append}
+use Rattle.std.proofs.Common.{ℕ, zero, suc, ◌+◌, ◌*◌, ◌≤◌, ◌<◌, ◌≡◌, refl, sym, ap, ◌∙◌, List, [], ◌++◌, append_assoc, append-nil, suc-mul, add-one, arith, length, length-append}
 use Rattle.std.proofs.Math.Logic.{by_cases}
 use Rattle.std.proofs.Math.Decide.{dec_lt}
 use Rattle.counting.specs.Below.{join_below}
@@ -27,6 +27,13 @@ module _ (f : ℕ → List ℕ) where
   unfolding join_below
   join_short b zero h = omega arith
   join_short b (suc n) h = omega (arith, join_short b n (λ k l. h k (omega arith)), h n (omega arith), length-append (join_below f n) (f n), suc-mul n b)
+
+-- texts one after the other begin with the first
+pub join_first : (f : ℕ → List ℕ) (n : ℕ) → 0 < n → (rest : List ℕ) × (join_below f n ≡ f 0 ++ rest)
+unfolding join_below
+join_first f zero h = absurd (omega arith)
+join_first f (suc zero) h = ([], sym (append-nil (f 0)))
+join_first f (suc (suc n)) h = let (rest, e) = join_first f (suc n) (omega arith) in (rest ++ f (suc n), ap (λ l. l ++ f (suc n)) e ∙ append_assoc (f 0) rest (f (suc n)))
 
 -- texts that agree
 pub join_agree : (f g : ℕ → List ℕ) (n : ℕ) → ((k : ℕ) → k < n → f k ≡ g k) → join_below f n ≡ join_below g n

@@ -72,7 +72,7 @@ unfolding outcomes after
 each s w [] = none
 each s w (c ∷ cs) = then (outcome_answered s w c) (each (outcome s c).sheet (call_left s w c).1 cs)
 
-after_whole : (s : Sheet) → Whole s → (cs : List Call) → Whole (after s cs)
+pub after_whole : (s : Sheet) → Whole s → (cs : List Call) → Whole (after s cs)
 unfolding after
 after_whole s w [] = w
 after_whole s w (c ∷ cs) = after_whole (outcome s c).sheet (call_left s w c).1 cs

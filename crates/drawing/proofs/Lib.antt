@@ -7,6 +7,7 @@ pub mod Unique
 pub mod Contact
 pub mod Neighbours
 pub mod Rings
+pub mod Turning
 pub mod Order
 pub mod Correct
 pub mod Answered

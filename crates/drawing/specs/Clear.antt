@@ -62,6 +62,10 @@ pub record Clockwise (s : Sheet) (D : Drawing) (v : ℕ) : Type 0 where
   pub falling : Falling (dart_column D) down
   pub ring : Cycle s (get_or (up ++ down) 0 0) (up ++ down)
 
+-- every ring is in clockwise order
+abbrev pub InOrder : Sheet → Drawing → Type 0
+InOrder s D = (v : ℕ) → v < s.vertices → Clockwise s D v
+
 -- every bar and wire lies in the rows and columns; these are at most n rows and m − n + 2 columns
 pub record Fits (s : Sheet) (D : Drawing) : Type 0 where
   pub vertex_row : (v : ℕ) → v < s.vertices → (vertex_of D v).row < D.rows
@@ -75,5 +79,5 @@ pub record Fits (s : Sheet) (D : Drawing) : Type 0 where
 -- nothing touches that may not, every ring stands in its order, all lies in at most n rows and m − n + 2 columns
 pub record Correct (s : Sheet) (D : Drawing) : Type 0 where
   pub clear : Clear s D
-  pub ordered : (v : ℕ) → v < s.vertices → Clockwise s D v
+  pub ordered : InOrder s D
   pub fits : Fits s D

@@ -13,6 +13,7 @@ ghost use Rattle.load.specs.Load.{load, load_links};
 ghost use Rattle.writesheet.specs.Write.{write_sheet, buffer_after_sheet};
 ghost use Rattle.edit.specs.Lines.{read_edit};
 ghost use Rattle.drawing.specs.Write.{write_drawing, buffer_after_drawing};
+ghost use Rattle.checkdrawing.specs.Call.{check_drawing_call};
 ghost use Rattle.program.specs.Program.{write_output, buffer_after_output};
 ghost use Rattle.exports.specs.Edits.{kind_of, numbers_in, edit_by};
 ghost use Rattle.replay.specs.Encoded.{calls_of};
@@ -134,6 +135,22 @@ pub extern "C" fn walnut_trace_faces(
     let number = answers::answer_number(&traced);
     *faces = tracefaces::returned(traced);
     number
+}
+
+// Check drawing.
+#[unsafe(no_mangle)]
+pub extern "C" fn walnut_check_drawing(
+    vertices: usize,
+    edges: usize,
+    tails: &[u16; 256],
+    heads: &[u16; 256],
+    nexts: &[u16; 512],
+    text: &[u8],
+) -> u16
+    ensures { result ≡ answer_number (check_drawing_call (sheet_of vertices edges tails.now heads.now nexts.now) text.now) }
+{
+    let sheet = sheet_of(vertices, edges, tails, heads, nexts);
+    answers::answer_number(&checkdrawing::check_drawing(sheet, text))
 }
 
 // What a load returns takes the place of the present sheet; its number.

@@ -49,7 +49,7 @@ endless_more : (x : ℕ) (xs : List ℕ) → 10 < x → endless xs ≡ true → 
 unfolding endless
 endless_more x xs h e = rw (ne_eqb x 10 (λ z. omega arith), e) refl
 
-endless_append : (xs ys : List ℕ) → endless xs ≡ true → endless ys ≡ true → endless (xs ++ ys) ≡ true
+pub endless_append : (xs ys : List ℕ) → endless xs ≡ true → endless ys ≡ true → endless (xs ++ ys) ≡ true
 unfolding endless
 endless_append [] ys e f = f
 endless_append (x ∷ xs) ys e f = go (eqb x 10) e (endless_append xs ys)

@@ -1,13 +1,13 @@
 -- Nothing but what is written is read. Assumes nothing.
-use Rattle.std.proofs.Common.{ℕ, zero, suc, ◌+◌, ◌≤◌, ◌<◌, ◌≡◌, refl, sym, ap, ◌∙◌, subst, subst₂, ◌≢◌, Bool, true, false, ◌&&◌, List, [], ◌∷◌, ◌++◌, add-one, arith, eqb-true, eqb, get_or, length, drop, length-append, drop_of_length-le, drop-cons, Some, None}
+use Rattle.std.proofs.Common.{ℕ, ◌+◌, ◌≤◌, ◌<◌, ◌≡◌, refl, sym, ap, ◌∙◌, subst, subst₂, ◌≢◌, Bool, true, false, ◌&&◌, List, [], ◌∷◌, ◌++◌, add-one, arith, eqb-true, eqb, get_or, length, drop, length-append, drop_of_length-le, drop-cons, Some, None}
 use Rattle.std.proofs.lemmas.Bool.{false≢true}
 use Rattle.std.proofs.Math.Decide.{dec_lt, ℕ_discrete}
 use Rattle.text.specs.Written.{decimal, separated}
 use Rattle.text.specs.Reading.{Number, number_at, starts_with, Listed, listed, unlisted, before, line_end_at, numbers_at, line_at, last_line_at}
-use Rattle.layout.specs.Layout.{Stands, Numerals, Walk, single, more, Same, LineEnd, LineAt, LastLineAt}
+use Rattle.layout.specs.Layout.{Stands, Walk, single, more, Same, LineEnd, LineAt, LastLineAt}
 use Rattle.layout.specs.Layout.LineEnd.{alone, after_13}
 use Rattle.layout.specs.Layout.LastLineAt.{whole, bare}
-use Rattle.layout.proofs.Standing.{stands_nil, stands_cons, stands_append}
+use Rattle.layout.proofs.Standing.{stands_nil, stands_cons, stands_append, numerals_more, one_number}
 use Rattle.layout.proofs.Decimals.{number_stands}
 use Rattle.text.proofs.Listing.{numbers_none, numbers_last, numbers_more}
 use Rattle.text.proofs.DigitLaws.{inside}
@@ -41,13 +41,6 @@ numbers_walk s vs at next e = go (number_at s at) refl
     go None r = never_listed (sym (numbers_none s at r) ∙ e)
     go (Some (v, to)) r = after v to r (ℕ_discrete (get_or s to 0) 44)
 
-numerals_more : (v : ℕ) (vs : List ℕ) → v < 1000 → ((i : ℕ) → i < length vs → get_or vs i 0 < 1000) → Numerals (v ∷ vs)
-numerals_more v vs h t = record { some = omega arith; small = small' }
-  where
-    small' : (i : ℕ) → i < suc (length vs) → get_or (v ∷ vs) i 0 < 1000
-    small' zero l = h
-    small' (suc i) l = t i (omega arith)
-
 -- one number, and what follows it
 module _ (s : List ℕ) (at next v : ℕ) where
   none_listed : {A : Type 0} → Walk s at [] next → A
@@ -57,7 +50,7 @@ module _ (s : List ℕ) (at next v : ℕ) where
   unfolding separated
   number_only [] (single r c) ih =
       let h = number_stands s at v next r in
-      record { numerals = numerals_more v [] h.small (λ i l. absurd (omega arith)); holds = h.holds; place = h.place }
+      record { numerals = one_number v h.small; holds = h.holds; place = h.place }
   number_only [] (more {to = to} r c m) ih = absurd (omega (arith, (ih (to + 1) m).numerals.some))
   number_only (w ∷ vs) (more {to = to} r c m) ih =
       let h = number_stands s at v to r in
@@ -106,7 +99,7 @@ data Line (last : Bool) (key s : List ℕ) (at : ℕ) (vs : List ℕ) (next : �
 
 module _ (key s : List ℕ) (at : ℕ) where
   -- the key, and after it the numbers
-  keyed_only : (vs : List ℕ) (next : ℕ) → starts_with key (drop at s) ≡ true → numbers_at s (at + length key) ≡ listed vs next → Same s at vs (key ++ separated vs) next
+  pub keyed_only : (vs : List ℕ) (next : ℕ) → starts_with key (drop at s) ≡ true → numbers_at s (at + length key) ≡ listed vs next → Same s at vs (key ++ separated vs) next
   keyed_only vs next k e =
       let t = numbers_only s vs (at + length key) next e in
       record {

@@ -1,64 +1,30 @@
 // The program `plate`: reads standard input, and writes the output for it to standard output.
 #![tactic(auto)]
 
-ghost use Rattle.std.specs.Prelude.{◌≡◌, ◌<◌, true, length, take, IfSome, IfOk};
-ghost use Rattle.std.specs.Counts.{IsPrefixLen};
-ghost use Rattle.std.specs.Io.KnownBytes.{Appends, Consumes, IsAtEnd};
-ghost use Rattle.program.specs.Program.{plate_output};
-ghost use Rattle.plate.specs.Streams.{AppendsFront};
+ghost use Rattle.std.specs.Prelude.{◌≡◌, true, IfSome};
+ghost use Rattle.std.proofs.Common.{sym, ◌∙◌};
+ghost use Rattle.std.specs.Io.KnownBytes.{Appends};
+ghost use Rattle.streams.specs.Streams.{AppendsFront};
+ghost use Rattle.program.specs.Program.{plate_output, longest_output};
+ghost use Rattle.program.proofs.Cases.{too_long};
 
 use program::LONGEST_OUTPUT;
-use std::io::{self, Read, Write};
+use std::io::{Read, Write};
+use streams::Program;
 
-// A buffer of N bytes.
-fn buffer<const N: usize>() -> [u8; N]
-    ensures { N ≡ length result }
-{
-    [0; N]
-}
+// What it prints.
+struct Plate;
 
-// Reads until the buffer is full or the input ends, and returns how many bytes there were; or fails as a read fails.
-fn read_input<R: Read>(reader: &mut R, input: &mut [u8]) -> io::Result<usize>
-    ensures in_bounds { IfOk result (λ count. IsPrefixLen count input.new) }
-    ensures bytes { IfOk result (λ count. Consumes (R.remaining reader.old) (R.remaining reader.new) (take count input.new)) }
-    ensures all { IfOk result (λ count. count < length input.new → IsAtEnd (R.remaining reader.new)) }
-{
-    // Not `read_to_end`: there is no heap.
-    let mut at = 0;
-    while at < input.len() {
-        match reader.read(&mut input[at..])? {
-            0 => break,
-            more => at += more,
-        }
+impl Program for Plate {
+    ghost output = { plate_output };
+
+    ghost longest = { longest_output };
+
+    ghost too_long = { λ input other h k. too_long input h ∙ sym (too_long other k) };
+
+    fn print(input: &[u8], buffer: &mut [u8]) -> usize {
+        program::plate(input, buffer).unwrap()
     }
-    Ok(at)
-}
-
-// Writes until a write fails or takes nothing, and returns how many bytes were written.
-fn write_bytes<W: Write>(writer: &mut W, bytes: &[u8]) -> usize
-    ensures in_bounds { IsPrefixLen result bytes.now }
-    ensures written { Appends (W.contents writer.old) (W.contents writer.new) (take result bytes.now) }
-{
-    // Not `write_all`: it says nothing of how much was written where it fails.
-    let mut done = 0;
-    while done < bytes.len() {
-        match writer.write(&bytes[done..]) {
-            Ok(0) => break,
-            Ok(more) => done += more,
-            Err(_) => break,
-        }
-    }
-    done
-}
-
-// Writes the output for an input, and tells whether all of it was written. Where the writer takes no more, the rest is not written.
-fn answer<W: Write>(writer: &mut W, input: &[u8]) -> bool
-    ensures front { AppendsFront (W.contents writer.old) (W.contents writer.new) (plate_output input.now) }
-    ensures whole { result ≡ true → Appends (W.contents writer.old) (W.contents writer.new) (plate_output input.now) }
-{
-    let mut output = buffer::<LONGEST_OUTPUT>();
-    let count = program::plate(input, &mut output).unwrap();
-    write_bytes(writer, &output[..count]) == count
 }
 
 // Reads an input and writes the output for it, and tells whether all was read and written. Where a read fails, nothing is written.
@@ -66,12 +32,8 @@ fn run<R: Read, W: Write>(reader: &mut R, writer: &mut W) -> bool
     ensures front { IfSome (R.remaining reader.old) (λ input. AppendsFront (W.contents writer.old) (W.contents writer.new) (plate_output input)) }
     ensures whole { result ≡ true → IfSome (R.remaining reader.old) (λ input. Appends (W.contents writer.old) (W.contents writer.new) (plate_output input)) }
 {
-    // One byte more than an input may have: one that fills it is refused 18, and the rest is not read.
-    let mut input = buffer::<16385>();
-    match read_input(reader, &mut input) {
-        Ok(count) => answer(writer, &input[..count]),
-        Err(_) => false,
-    }
+    let mut output = streams::buffer::<LONGEST_OUTPUT>();
+    streams::run::<Plate, R, W>(reader, writer, &mut output)
 }
 
 fn main(rt: HostRuntime) {

@@ -31,7 +31,8 @@ split (b ∷ text) = go (ℕ_discrete b 10) (split text)
     go (no n) (line first rest o e q) = line (b ∷ first) rest (one_more b first n o) (rw e refl) (rw (ne_eqb b 10 n) q)
     go (no n) (none q) = none (rw (ne_eqb b 10 n) q)
 
-after_first : (first rest : List ℕ) → OneLine first → after_line (first ++ 10 ∷ rest) ≡ rest
+-- what follows the first line end
+pub after_first : (first rest : List ℕ) → OneLine first → after_line (first ++ 10 ∷ rest) ≡ rest
 unfolding line_length
 after_first [] rest o = refl
 after_first (b ∷ first) rest o = rw (ne_eqb b 10 (o 0 (omega arith))) (after_first first rest (λ i h. o (suc i) (omega arith)))

@@ -3,4 +3,5 @@ pub mod Bound
 pub mod Put
 pub mod Turns
 pub mod Cases
+pub mod Room
 pub mod Forms

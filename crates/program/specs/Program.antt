@@ -59,12 +59,12 @@ plate_output input = pick (leb (length input) 16384) (λ _. loaded_output input 
 abbrev pub longest_output : ℕ
 longest_output = 11 * 16384 + 6807
 
--- The output in a lent buffer. 17: lent buffer shorter than the longest output; whatever the input, it is then untouched.
-unfoldable pub plate_answer : List ℕ → Answer
-plate_answer buffer = first (BufferTooShort if ltb (length buffer) longest_output ∷ [])
+-- An output in a lent buffer. 17: lent buffer shorter than the longest output; whatever the input, it is then untouched.
+unfoldable pub room_answer : ℕ → List ℕ → Answer
+room_answer longest buffer = first (BufferTooShort if ltb (length buffer) longest ∷ [])
 
 abbrev pub write_output : List ℕ → List ℕ → Result ℕ Refusal
-write_output input buffer = written (plate_answer buffer) (plate_output input)
+write_output input buffer = written (room_answer longest_output buffer) (plate_output input)
 
 abbrev pub buffer_after_output : List ℕ → List ℕ → List ℕ
-buffer_after_output input buffer = buffer_after (plate_answer buffer) (plate_output input) buffer
+buffer_after_output input buffer = buffer_after (room_answer longest_output buffer) (plate_output input) buffer

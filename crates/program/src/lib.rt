@@ -13,7 +13,7 @@ use load::{Form, Loaded};
 use sheet::Sheet;
 
 // Puts a line `refused=` and number.
-fn put_refused(to: &mut Writer, refusal: Refusal)
+pub fn put_refused(to: &mut Writer, refusal: Refusal)
     requires { to.old.filled + length (refused_line refusal) ≤ length to.old.out.now }
     ensures { Puts to.old (refused_line refusal) to.new }
 {
@@ -69,7 +69,7 @@ fn input_form(input: &[u8]) -> Form
 }
 
 // Reads the sheet of an input, by its form.
-fn load_input(input: &[u8]) -> Result<Loaded, Refusal>
+pub fn load_input(input: &[u8]) -> Result<Loaded, Refusal>
     ensures { result ≡ load_input input.now }
 {
     match input_form(input) {

@@ -3,7 +3,8 @@ pub mod Around
 pub mod Linking
 pub mod Laid
 pub mod Loaded
+pub mod Taken
 pub mod Rotations
-pub mod Standing
+pub mod Joined
 pub mod RoundTrip
 pub mod Written

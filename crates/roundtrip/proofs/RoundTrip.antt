@@ -11,7 +11,7 @@ use Rattle.text.specs.Reading.{Listed, listed, line_at}
 use Rattle.text.specs.Shapes.{with_one, with_two, with_some}
 use Rattle.text.specs.Written.{line}
 use Rattle.layout.specs.Layout.{Stands, Numerals}
-use Rattle.layout.proofs.Standing.{stands_left, stands_right}
+use Rattle.layout.proofs.Standing.{stands_left, stands_right, stands_front, stands_joined, one_number, two_numbers}
 use Rattle.layout.specs.Mixed.{MixedEnds}
 use Rattle.layout.proofs.Mixed.{mixed_same, mixed_parts, endless, mixed_read}
 use Rattle.clauses.specs.declared.Sheet.{Sheet}
@@ -37,7 +37,7 @@ use Rattle.soundness.proofs.Ends.{at_below}
 use Rattle.roundtrip.proofs.Linking.{link_length, link_anew, link_other}
 use Rattle.roundtrip.proofs.Laid.{link_leaves}
 use Rattle.roundtrip.proofs.Rotations.{Rotated, rotated}
-use Rattle.roundtrip.proofs.Standing.{stands_front, stands_joined, one_number, two_numbers, Joined, mixed_joined}
+use Rattle.roundtrip.proofs.Joined.{Joined, mixed_joined}
 
 -- the lines of a wire and of a bar
 abbrev edge_text : Sheet → ℕ → List ℕ

@@ -12,7 +12,7 @@ use Rattle.roundtrip.proofs.Loaded.{loaded_sound}
 use Rattle.roundtrip.proofs.RoundTrip.{round_trip}
 
 -- where a writer's answer is a count, it accepts, and the count is the text's length
-answered : (a : Answer) (text : List ℕ) (count : ℕ) → written a text ≡ Ok count → (a ≡ Ok tt) × (length text ≡ count)
+pub answered : (a : Answer) (text : List ℕ) (count : ℕ) → written a text ≡ Ok count → (a ≡ Ok tt) × (length text ≡ count)
 unfolding answering
 answered (Ok u) text count e = (refl, cc e)
 answered (Err r) text count e = cc e

@@ -1,5 +1,5 @@
 -- What a test says, clause by clause, and laws of the tests over the numbers below n. Assumes nothing.
-use Rattle.std.proofs.Common.{◌≡◌, refl, ap, ◌↔◌, ◌⊎◌, inl, inr, Bool, true, false, not, ◌&&◌, ◌||◌, ℕ, zero, suc, ◌≤◌, ◌<◌, arith, eqb, ltb, leb, ltb-true, leb-true, eqb-true, lt-ltb, le-leb, eq-eqb}
+use Rattle.std.proofs.Common.{◌≡◌, refl, sym, ap, ◌↔◌, ◌⊎◌, inl, inr, Bool, true, false, not, ◌&&◌, ◌||◌, ℕ, zero, suc, ◌≤◌, ◌<◌, arith, eqb, ltb, leb, ltb-true, leb-true, eqb-true, lt-ltb, le-leb, eq-eqb}
 use Rattle.std.proofs.Math.Logic.{by_cases}
 use Rattle.std.proofs.lemmas.Bool.{false≢true, not-true, false_from_ne_true}
 use Rattle.std.proofs.Math.Bool.{beq, and-eq-true_iff}
@@ -52,6 +52,13 @@ same_says {a = true} {b = true} x y = (λ _. (λ _. y.0 refl, λ _. x.0 refl), �
 same_says {a = true} {b = false} x y = (λ t. absurd (false≢true t), λ w. y.1 (w.0 (x.0 refl)))
 same_says {a = false} {b = true} x y = (λ t. absurd (false≢true t), λ w. x.1 (w.1 (y.0 refl)))
 same_says {a = false} {b = false} x y = (λ _. (λ p. absurd (false≢true (x.1 p)), λ q. absurd (false≢true (y.1 q))), λ _. refl)
+
+-- tests that say one thing are one
+pub says_once : {a b : Bool} {P : Type 0} → Says a P → Says b P → a ≡ b
+says_once {a = true} {b = true} x y = refl
+says_once {a = true} {b = false} x y = sym (y.1 (x.0 refl))
+says_once {a = false} {b = true} x y = x.1 (y.0 refl)
+says_once {a = false} {b = false} x y = refl
 
 module _ {p : ℕ → Bool} {P : ℕ → Type 0} where
   pub all_says : (n : ℕ) → ((k : ℕ) → k < n → Says (p k) (P k)) → Says (all_below p n) ((k : ℕ) → k < n → P k)

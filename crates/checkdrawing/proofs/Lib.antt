@@ -1,0 +1,4 @@
+pub mod Answered
+pub mod Own
+pub mod Laws
+pub mod Outcomes

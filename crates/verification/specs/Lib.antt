@@ -1,0 +1,2 @@
+pub mod Verify
+pub mod Laws
