@@ -5,6 +5,7 @@
 //! next-ends of a bar is the clockwise rotation at that vertex. The quoted sentences in the
 //! comments are those of the specification.
 
+pub mod check_drawing;
 pub mod directions;
 pub mod draw;
 pub mod edit;
@@ -13,13 +14,17 @@ pub mod levels;
 pub mod load;
 pub mod plate;
 pub mod read_edit;
+pub mod segments;
 pub mod sheet;
 pub mod sound;
+pub mod standard;
 pub mod text;
 pub mod trace;
 pub mod trace_faces;
+pub mod verify;
 pub mod write;
 
+pub use check_drawing::check_drawing;
 pub use directions::{permitted, same_links};
 pub use draw::{draw, Drawing, EdgeSegment, VertexSegment};
 pub use edit::{apply, put_in, run, take_out_bar, take_out_wire, Edit};
@@ -31,4 +36,5 @@ pub use sheet::{Answer, Sheet, MAX_DARTS, MAX_EDGES, MAX_VERTICES};
 pub use sound::is_sound;
 pub use trace::trace;
 pub use trace_faces::trace_faces;
+pub use verify::{verify, verify_by};
 pub use write::{write_drawing, write_sheet};

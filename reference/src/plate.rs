@@ -20,17 +20,11 @@ pub fn plate(input: &[u8]) -> Vec<u8> {
 /// The same by a second load of the caller's: "Which choice it makes is free", so another's `plate`
 /// must print what this gives with that one's second load.
 pub fn plate_by(input: &[u8], links: impl Fn(&[u8], &Sheet) -> (Answer, Sheet, usize)) -> Vec<u8> {
+    let (mut sheet, mut rest) = match read_input(input, links) {
+        Ok(read) => read,
+        Err(refusal) => return refusal_line(refusal),
+    };
     let mut output = Vec::new();
-    if input.len() > MAX_INPUT {
-        push_refusal(&mut output, 18);
-        return output;
-    }
-    let (answer, mut sheet, taken) = load_input(input, links);
-    if let Err(refusal) = answer {
-        push_refusal(&mut output, refusal);
-        return output;
-    }
-    let mut rest = &input[taken..];
     while !rest.is_empty() {
         let (edit, taken) = read_edit(rest);
         rest = &rest[taken..];
@@ -39,13 +33,25 @@ pub fn plate_by(input: &[u8], links: impl Fn(&[u8], &Sheet) -> (Answer, Sheet, u
             Err(refusal) => (Err(refusal), sheet),
         };
         if let Err(refusal) = answer {
-            push_refusal(&mut output, refusal);
+            output.extend(refusal_line(refusal));
         }
         sheet = edited;
     }
     let (_, drawing) = draw(&sheet);
     output.extend(drawing_text(&sheet, &drawing));
     output
+}
+
+/// The sheet at the front of an input and what follows it, where neither 18 nor the load refuses it.
+pub fn read_input(
+    input: &[u8],
+    links: impl Fn(&[u8], &Sheet) -> (Answer, Sheet, usize),
+) -> Result<(Sheet, &[u8]), u8> {
+    if input.len() > MAX_INPUT {
+        return Err(18);
+    }
+    let (answer, sheet, taken) = load_input(input, links);
+    answer.map(|()| (sheet, &input[taken..]))
 }
 
 /// The load of an input by the first load or the second: "`plate` uses it where the input's third line
@@ -64,6 +70,8 @@ pub fn load_input(
 }
 
 /// "its line `refused=` and number"
-fn push_refusal(output: &mut Vec<u8>, refusal: u8) {
-    push_line(output, b"refused=", &[usize::from(refusal)]);
+pub fn refusal_line(refusal: u8) -> Vec<u8> {
+    let mut line = Vec::new();
+    push_line(&mut line, b"refused=", &[usize::from(refusal)]);
+    line
 }

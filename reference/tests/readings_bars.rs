@@ -2,17 +2,8 @@
 
 mod common;
 
-use common::{plate_words, slow, P4};
-use reference::generate::{extreme_sheets, random_sheet, Random};
-use reference::{draw, Drawing, Sheet};
-
-/// Sheets of all sizes, with their drawings.
-fn drawn_sheets(seed: u64) -> Vec<(Sheet, Drawing)> {
-    let random = &mut Random::new(seed);
-    let mut sheets = extreme_sheets(random);
-    sheets.extend((0..800).map(|_| random_sheet(random)));
-    sheets.into_iter().map(|sheet| (sheet, draw(&sheet).1)).collect()
-}
+use common::{drawn_sheets, plate_words, slow, P4};
+use reference::Drawing;
 
 /// The wire of greatest column among those whose bar this is; `bars` are the tails or the heads.
 fn rightmost(drawing: &Drawing, bars: &[u16], v: usize) -> usize {

@@ -3,12 +3,14 @@
 mod common;
 
 use common::model::Model;
-use common::slow;
+use common::{artwork, lines, slow, FRESH_DRAWN};
+use reference::generate::drawings::{other_bytes, small_drawings};
 use reference::generate::{
-    any_edit, digraph, directed_torus, grown, likely_edit, permutation, random_sheet, torus,
-    Random, Records,
+    any_drawing, any_edit, damaged, damaged_record, digraph, directed_torus, grown, likely_edit,
+    permutation, random_sheet, torus, Random, Records,
 };
-use reference::{apply, draw, is_sound, levels, trace, Drawing, Sheet};
+use reference::write::drawing_text;
+use reference::{apply, check_drawing, draw, is_sound, levels, trace, Drawing, Sheet};
 
 #[test]
 fn soundness_of_records() {
@@ -196,4 +198,63 @@ fn faces_of_random_sheets() {
         assert_eq!(reference::trace::faces(&sheet).0, faces);
         assert_eq!(sheet.vertices + faces, sheet.edges + 2);
     }
+}
+
+/// Compares the check of a drawing with the slow way, and counts its answer, 0 for acceptance.
+fn check_both_ways(sheet: &Sheet, text: &[u8], counts: &mut [usize; 23]) {
+    let answer = check_drawing(sheet, text);
+    let shown = String::from_utf8_lossy(text);
+    assert_eq!(answer, artwork::answer(sheet, text), "{shown:?} of {sheet:?}");
+    counts[answer.err().unwrap_or(0) as usize] += 1;
+}
+
+/// Contact at every point and half point; the layout by the text that is written for the numbers.
+#[test]
+fn drawings_from_others() {
+    let random = &mut Random::new(15);
+    let mut counts = [0; 23];
+    for _ in 0..3000 {
+        let vertices = random.between(2, 8);
+        let edges = random.between(vertices, 12);
+        let sheet = grown(random, vertices, edges);
+        for _ in 0..6 {
+            let text = any_drawing(random, &sheet);
+            check_both_ways(&sheet, &text, &mut counts);
+            check_both_ways(&sheet, &damaged(random, &text), &mut counts);
+        }
+        let record = damaged_record(random, &sheet);
+        check_both_ways(&record, &any_drawing(random, &sheet), &mut counts);
+    }
+    let [accepted, unsound] = [counts[0], counts[9]];
+    assert!(accepted > 5000 && unsound > 1500, "{counts:?}");
+    assert!(counts[20] > 5000 && counts[21] > 3000 && counts[22] > 1000, "{counts:?}");
+}
+
+/// Every byte put in at every place of the drawing of the fresh sheet, and in place of every byte.
+#[test]
+fn drawings_with_another_byte() {
+    let text = lines(FRESH_DRAWN);
+    let mut counts = [0; 23];
+    for new in other_bytes(&text, 0..=u8::MAX) {
+        check_both_ways(&Sheet::fresh(), &new, &mut counts);
+    }
+    // The byte that is there; 3 to 9 for one of the two numbers declared, 12 to 92, and 20 to 29.
+    assert_eq!(counts[0], text.len() + 2 * (7 + 9 + 10));
+    // 0 for 1 or 1 for 0: the three numbers of a bar, the column of a wire.
+    assert_eq!(counts[21], 2 * (3 + 1));
+    assert_eq!(counts[22], 0);
+}
+
+/// Every drawing of the fresh sheet within three rows and three columns.
+#[test]
+fn every_small_drawing_of_the_fresh_sheet() {
+    let mut counts = [0; 23];
+    for drawing in small_drawings() {
+        let text = drawing_text(&Sheet::fresh(), &drawing);
+        check_both_ways(&Sheet::fresh(), &text, &mut counts);
+    }
+    // Bar 0 lies below bar 1, in 3 ways. Two columns for the wires, in either order: 0 and 1, and 1 and 2,
+    // are within two bars from column 0 to 2 or as long as they are, so in 2 times 2 ways; 0 and 2 in one.
+    assert_eq!(counts[0], 3 * 2 * (4 + 4 + 1));
+    assert_eq!(counts.iter().sum::<usize>(), 3usize.pow(12));
 }

@@ -1,5 +1,6 @@
 //! Inputs for comparisons, drawn from a seed: the same seed gives the same sequence.
 
+pub mod drawings;
 pub mod edits;
 pub mod graphs;
 pub mod inputs;
@@ -9,6 +10,7 @@ pub mod records;
 pub mod sheets;
 pub mod texts;
 
+pub use drawings::{any_drawing, verify_input, Drawings};
 pub use edits::{any_edit, any_number, edit_line, edit_text, likely_edit, refused_edit};
 pub use graphs::{digraph, permutation};
 pub use inputs::{inputs_of_every_size, special_inputs, truncations, variation, Inputs};

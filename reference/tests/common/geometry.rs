@@ -15,6 +15,7 @@ enum Piece {
 /// All of it; the first fault found is named.
 pub fn check(sheet: &Sheet, drawing: &Drawing) -> Result<(), String> {
     check_sizes(sheet, drawing)?;
+    check_within(sheet, drawing)?;
     check_ends(sheet, drawing)?;
     check_contact(sheet, drawing)?;
     (0..sheet.vertices).try_for_each(|v| check_order(sheet, drawing, v))?;
@@ -29,12 +30,18 @@ fn hold(claim: bool, fault: impl Fn() -> String) -> Result<(), String> {
     }
 }
 
-/// At most n rows and m − n + 2 columns, every segment within them, unused entries 0.
+/// At most n rows and m − n + 2 columns.
 fn check_sizes(sheet: &Sheet, drawing: &Drawing) -> Result<(), String> {
     let (n, m) = (sheet.vertices, sheet.edges);
     let (rows, columns) = (drawing.rows, drawing.columns);
     hold(rows as usize <= n, || format!("{rows} rows"))?;
-    hold(columns as usize <= m - n + 2, || format!("{columns} columns"))?;
+    hold(columns as usize <= m - n + 2, || format!("{columns} columns"))
+}
+
+/// Every segment within the rows and columns, the wires rising, unused entries 0.
+pub fn check_within(sheet: &Sheet, drawing: &Drawing) -> Result<(), String> {
+    let (n, m) = (sheet.vertices, sheet.edges);
+    let (rows, columns) = (drawing.rows, drawing.columns);
     for (v, bar) in drawing.vertices.iter().enumerate() {
         let within = bar.row < rows && bar.first <= bar.last && bar.last < columns;
         let zero = (bar.row, bar.first, bar.last) == (0, 0, 0);
@@ -49,7 +56,7 @@ fn check_sizes(sheet: &Sheet, drawing: &Drawing) -> Result<(), String> {
 }
 
 /// Each wire goes from its tail bar's row to its head bar's row, its ends on its bars.
-fn check_ends(sheet: &Sheet, drawing: &Drawing) -> Result<(), String> {
+pub fn check_ends(sheet: &Sheet, drawing: &Drawing) -> Result<(), String> {
     for k in 0..sheet.edges {
         let wire = drawing.edges[k];
         let tail = drawing.vertices[sheet.tails[k] as usize];
@@ -81,7 +88,7 @@ fn points(sheet: &Sheet, drawing: &Drawing) -> Vec<((u16, u16), Piece)> {
 }
 
 /// No forbidden contact at any point.
-fn check_contact(sheet: &Sheet, drawing: &Drawing) -> Result<(), String> {
+pub fn check_contact(sheet: &Sheet, drawing: &Drawing) -> Result<(), String> {
     let points = points(sheet, drawing);
     for here in points.chunk_by(|one, other| one.0 == other.0) {
         for (i, &(point, one)) in here.iter().enumerate() {
@@ -114,7 +121,7 @@ fn may_touch(sheet: &Sheet, drawing: &Drawing, at: (u16, u16), one: Piece, other
 
 /// "At a bar, upward wires by rising column, then downward wires by falling column, is the
 /// clockwise order, wherever one starts."
-fn check_order(sheet: &Sheet, drawing: &Drawing, v: usize) -> Result<(), String> {
+pub fn check_order(sheet: &Sheet, drawing: &Drawing, v: usize) -> Result<(), String> {
     let column = |k: &usize| drawing.edges[*k].column;
     let mut upward: Vec<usize> =
         (0..sheet.edges).filter(|&k| sheet.tails[k] as usize == v).collect();

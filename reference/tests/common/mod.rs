@@ -1,6 +1,7 @@
 //! Second, slow ways to what the reference implementation answers, and helpers for texts.
 #![allow(dead_code)]
 
+pub mod artwork;
 pub mod geometry;
 pub mod model;
 pub mod net;
@@ -8,7 +9,10 @@ pub mod slow;
 
 use std::path::{Path, PathBuf};
 
-use reference::{load, load_links, plate, write_drawing, write_sheet, Answer, Sheet};
+use reference::generate::{extreme_sheets, random_sheet, Random};
+use reference::{
+    draw, load, load_links, plate, write_drawing, write_sheet, Answer, Drawing, Sheet,
+};
 
 /// A text of the given words, each a line.
 pub fn lines(words: &str) -> Vec<u8> {
@@ -90,12 +94,25 @@ fn words_in(answer: Answer, count: usize, buffer: &[u8]) -> String {
     text.lines().collect::<Vec<_>>().join(" ")
 }
 
+/// Sheets of all sizes, with their drawings.
+pub fn drawn_sheets(seed: u64) -> Vec<(Sheet, Drawing)> {
+    let random = &mut Random::new(seed);
+    let mut sheets = extreme_sheets(random);
+    sheets.extend((0..800).map(|_| random_sheet(random)));
+    sheets.into_iter().map(|sheet| (sheet, draw(&sheet).1)).collect()
+}
+
 /// The inputs of the folder examples with the outputs beside them, which were worked out by hand.
 pub fn examples() -> Vec<(PathBuf, Vec<u8>, Vec<u8>)> {
-    let folder = Path::new(env!("CARGO_MANIFEST_DIR")).join("../examples");
+    examples_in("examples", "sheet")
+}
+
+/// The same of a folder, inputs having the given extension.
+pub fn examples_in(folder: &str, extension: &str) -> Vec<(PathBuf, Vec<u8>, Vec<u8>)> {
+    let folder = Path::new(env!("CARGO_MANIFEST_DIR")).join("..").join(folder);
     let entries = folder.read_dir().expect("the folder");
     let mut paths: Vec<PathBuf> = entries.map(|entry| entry.expect("a file").path()).collect();
-    paths.retain(|path| path.extension().is_some_and(|extension| extension == "sheet"));
+    paths.retain(|path| path.extension().is_some_and(|found| found == extension));
     let read = |path: &Path| std::fs::read(path).expect("a file");
     paths.into_iter().map(|p| (p.clone(), read(&p), read(&p.with_extension("out")))).collect()
 }
