@@ -176,12 +176,20 @@ pub fn trace_faces(s: &Sheet) -> (u16, [u16; MAX_DARTS]) {
 }
 
 /// A text and the place in it.
-struct Reader<'a> {
+pub struct Reader<'a> {
     text: &'a [u8],
     at: usize,
 }
 
-impl Reader<'_> {
+impl<'a> Reader<'a> {
+    pub fn new(text: &'a [u8]) -> Reader<'a> {
+        Reader { text, at: 0 }
+    }
+
+    pub fn is_at_end(&self) -> bool {
+        self.at == self.text.len()
+    }
+
     fn key(&mut self, key: &[u8]) -> Option<()> {
         let found = self.text[self.at..].starts_with(key);
         self.at += key.len();
@@ -216,7 +224,8 @@ impl Reader<'_> {
         Some(byte)
     }
 
-    fn line<const COUNT: usize>(&mut self, key: &[u8]) -> Option<[usize; COUNT]> {
+    /// The numbers of a line, and the byte after them.
+    pub fn numbers<const COUNT: usize>(&mut self, key: &[u8]) -> Option<([usize; COUNT], u8)> {
         self.key(key)?;
         let mut numbers = [0; COUNT];
         for (i, number) in numbers.iter_mut().enumerate() {
@@ -225,7 +234,11 @@ impl Reader<'_> {
                 return None;
             }
         }
-        let last = self.byte()?;
+        Some((numbers, self.byte()?))
+    }
+
+    fn line<const COUNT: usize>(&mut self, key: &[u8]) -> Option<[usize; COUNT]> {
+        let (numbers, last) = self.numbers(key)?;
         self.end(last)?;
         Some(numbers)
     }
@@ -268,7 +281,7 @@ fn read_sheet(text: &[u8]) -> Result<(Sheet, usize), u16> {
     if text.is_empty() {
         return Ok((Sheet::fresh(), 0));
     }
-    let mut reader = Reader { text, at: 0 };
+    let mut reader = Reader::new(text);
     let [n] = reader.line(b"bars=").ok_or(1u16)?;
     if !(2..=MAX_VERTICES).contains(&n) {
         return Err(2);
@@ -628,7 +641,7 @@ pub fn write_drawing_by(s: &Sheet, buffer: &mut [u8], face: impl Fn(&Faces, usiz
 /// The edit that a line reads as, its end taken off.
 fn edit_of(line: &[u8]) -> Option<Edit> {
     let (key, numbers) = line.split_at(line.iter().position(|&byte| byte == b'=')? + 1);
-    let mut reader = Reader { text: numbers, at: 0 };
+    let mut reader = Reader::new(numbers);
     let mut values = [0; 4];
     let count = if key == b"run=" { 4 } else { 1 };
     for i in 0..count {

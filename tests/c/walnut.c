@@ -183,6 +183,33 @@ static void check_writers(void) {
     check(answer == 9 && count == 0 && untouched(0, sizeof buffer), "a sheet of 129 bars is refused 9");
 }
 
+static uint16_t check_drawing(const walnut_sheet *s, const char *text) {
+    return walnut_check_drawing(WALNUT_READ(s), bytes(text), strlen(text));
+}
+
+static void check_drawings(void) {
+    walnut_sheet s = WALNUT_FRESH_SHEET;
+    size_t taken;
+    check(check_drawing(&s, "rows=2\ncolumns=2\nbar=0,0,1\nbar=1,0,1\nwire=1,0,1\nwire=0,0,1\n") == 0, "the drawing of the fresh sheet is accepted");
+    check(check_drawing(&s, "rows=999\ncolumns=999\nbar=0,0,998\nbar=998,0,998\nwire=998,0,998\nwire=0,0,998\n") == 0,
+          "rows and columns may go up to 998");
+    check(check_drawing(&s, "rows=2\ncolumns=2\nbar=0,0,1\nbar=1,0,1\nwire=1,0,1\nwire=1,0,1\n") == 21, "two wires in one column are refused 21");
+    check(check_drawing(&s, p4_drawing) == 20 && check_drawing(&s, "") == 20, "the drawing of P4 is refused 20 for the fresh sheet, and so is no text");
+    check(load(&s, p4, &taken) == 0 && check_drawing(&s, p4_drawing) == 0, "it is accepted for P4");
+    check(walnut_check_drawing(WALNUT_READ(&s), bytes(p4_drawing), strlen(p4_drawing) - 1) == 20, "without its last byte it is refused 20");
+    check(check_drawing(&s, "rows=4\ncolumns=10\nbar=0,0,9\nbar=3,0,9\nbar=1,0,4\nbar=2,2,6\n"
+                            "wire=7,0,3\nwire=1,0,1\nwire=1,1,3\nwire=5,0,2\nwire=3,2,3\nwire=3,1,2\n") == 0,
+          "bars may be longer where there is room");
+    check(check_drawing(&s, "rows=4\ncolumns=4\nbar=0,0,3\nbar=3,0,3\nbar=1,0,2\nbar=2,1,2\n"
+                            "wire=3,0,3\nwire=0,0,1\nwire=0,1,3\nwire=2,0,2\nwire=1,2,3\nwire=1,1,2\n") == 21,
+          "a bar that touches a wire is refused 21");
+    check(check_drawing(&s, "rows=4\ncolumns=4\nbar=0,0,3\nbar=3,0,3\nbar=1,2,3\nbar=2,1,2\n"
+                            "wire=0,0,3\nwire=3,0,1\nwire=3,1,3\nwire=1,0,2\nwire=2,2,3\nwire=2,1,2\n") == 22,
+          "left and right exchanged is refused 22");
+    s.nexts[511] = 1;
+    check(check_drawing(&s, p4_drawing) == 9 && check_drawing(&s, "") == 9, "an unused entry of 1 is refused 9, whatever the text");
+}
+
 static void check_edits(void) {
     walnut_sheet s, before;
     size_t taken;
@@ -290,6 +317,7 @@ int main(void) {
     check_load_links();
     check_trace_faces();
     check_writers();
+    check_drawings();
     check_edits();
     check_read_edit();
     check_replay();

@@ -91,6 +91,15 @@ mod calls {
             length: usize,
             count: &mut usize,
         ) -> u16;
+        pub fn walnut_check_drawing(
+            vertices: usize,
+            edges: usize,
+            tails: &[u16; 256],
+            heads: &[u16; 256],
+            nexts: &[u16; 512],
+            text: *const u8,
+            length: usize,
+        ) -> u16;
         pub fn walnut_read_edit(
             text: *const u8,
             length: usize,
@@ -234,6 +243,21 @@ pub fn write_sheet(sheet: &Sheet, buffer: &mut [u8]) -> (u16, usize) {
 /// Write drawing.
 pub fn write_drawing(sheet: &Sheet, buffer: &mut [u8]) -> (u16, usize) {
     write(calls::walnut_write_drawing, sheet, buffer)
+}
+
+/// The check of a drawing's text for a sheet: the answer's number, 0 for acceptance.
+pub fn check_drawing(sheet: &Sheet, text: &[u8]) -> u16 {
+    unsafe {
+        calls::walnut_check_drawing(
+            sheet.vertices,
+            sheet.edges,
+            &sheet.tails,
+            &sheet.heads,
+            &sheet.nexts,
+            text.as_ptr(),
+            text.len(),
+        )
+    }
 }
 
 /// An edit: the answer's number (0 for acceptance) and the sheet returned.
