@@ -25,11 +25,7 @@ fn same_as_reference(input: &[u8]) -> Vec<u8> {
 fn examples_give_their_outputs() {
     let examples = examples("examples", "sheet");
     assert_eq!(examples.len(), 20);
-    for (path, input, expected) in examples {
-        let shown = |bytes: &[u8]| String::from_utf8_lossy(bytes).into_owned();
-        assert_eq!(shown(&PLATE.run(&input)), shown(&expected), "{}", path.display());
-        assert_eq!(PLATE.run_on_file(&path), expected, "{} as a file", path.display());
-    }
+    PLATE.gives_outputs(&examples);
 }
 
 #[test]

@@ -37,11 +37,7 @@ fn number_in(output: &[u8]) -> usize {
 fn examples_give_their_outputs() {
     let examples = examples("examples/drawings", "drawing");
     assert_eq!(examples.len(), 20);
-    for (path, input, expected) in examples {
-        let shown = |bytes: &[u8]| String::from_utf8_lossy(bytes).into_owned();
-        assert_eq!(shown(&VERIFY.run(&input)), shown(&expected), "{}", path.display());
-        assert_eq!(VERIFY.run_on_file(&path), expected, "{} as a file", path.display());
-    }
+    VERIFY.gives_outputs(&examples);
 }
 
 /// What `plate` prints for a sheet is a drawing that `verify` accepts for it, also where the sheet is links. The examples of

@@ -49,6 +49,15 @@ impl Program {
         printed(file.wait_with_output().expect("it ends"), path.display().to_string().as_bytes())
     }
 
+    /// It prints the output beside each of these examples, which come one by one through a pipe and as a file.
+    pub fn gives_outputs(&self, examples: &[(PathBuf, Vec<u8>, Vec<u8>)]) {
+        for (path, input, expected) in examples {
+            let shown = |bytes: &[u8]| String::from_utf8_lossy(bytes).into_owned();
+            assert_eq!(shown(&self.run(input)), shown(expected), "{}", path.display());
+            assert_eq!(&self.run_on_file(path), expected, "{} as a file", path.display());
+        }
+    }
+
     /// The same where the pieces of the input come one after the other.
     fn run_in_pieces(&self, pieces: &[&[u8]]) -> Vec<u8> {
         let mut child = self.start(Stdio::piped());
