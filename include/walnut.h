@@ -22,6 +22,7 @@ enum {
     WALNUT_BARS = 128,
     WALNUT_WIRES = 256,
     WALNUT_ENDS = 512,
+    WALNUT_SEGMENTS = 511,       /* of a mask: at most 256 faces, and 255 wires beside wire 0 */
     WALNUT_TEXT = 8192,          /* long enough for every written sheet and for every drawing's text */
     WALNUT_PLATE_OUTPUT = 187031 /* long enough for what `plate` prints; walnut_plate refuses a shorter buffer */
 };
@@ -130,6 +131,38 @@ uint16_t walnut_write_drawing(size_t bars, size_t wires, const uint16_t tails[WA
 uint16_t walnut_check_drawing(size_t bars, size_t wires, const uint16_t tails[WALNUT_WIRES],
                               const uint16_t heads[WALNUT_WIRES], const uint16_t nexts[WALNUT_ENDS], const uint8_t *text,
                               size_t length);
+
+/* The kinds of mask segments. */
+enum { WALNUT_UPRIGHT = 0, WALNUT_LEVEL = 1 };
+
+/* A segment of the insulation mask, ends included: an upright at x = `at` runs from y = `from` to y = `to`, a level segment
+ * at y = `at` from x = `from` to x = `to`. x counts columns and y rows, as in the drawing; all coordinates are halves, and
+ * exact. */
+typedef struct {
+    uint16_t kind;
+    float at, from, to;
+} walnut_segment;
+
+/* The least and greatest x and y of all segments of a mask; four zeros where there are none. */
+typedef struct {
+    float least_x, greatest_x, least_y, greatest_y;
+} walnut_frame;
+
+/* `count` segments and their frame; entries past them are uprights of zeros. */
+typedef struct {
+    size_t count;
+    walnut_segment segments[WALNUT_SEGMENTS];
+    walnut_frame frame;
+} walnut_mask;
+
+/* The insulation mask of the sheet, which goes with its drawing: first for each face, in the order of walnut_trace_faces, an
+ * upright half a column left of its column; then for each wire from 1 up a level segment half a row above its tail's row,
+ * from the upright of its left face to that of its right face. An upright runs from the lowest to the highest of the level
+ * segments that end on it. Each wire but 0 crosses its own level segment in one point, and the drawing and the mask meet
+ * nowhere else. Refused (9) there are no segments, and the frame is four zeros. */
+uint16_t walnut_insulation_mask(size_t bars, size_t wires, const uint16_t tails[WALNUT_WIRES],
+                                const uint16_t heads[WALNUT_WIRES], const uint16_t nexts[WALNUT_ENDS],
+                                walnut_mask *mask);
 
 /* What the program `plate` prints for the input, in the front of the buffer; its length goes to `count`, the rest of the
  * buffer keeps its bytes. Refusals of the input are part of what it prints. Answers 0, or 17 for a buffer shorter than

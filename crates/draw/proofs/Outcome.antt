@@ -1,12 +1,12 @@
 -- What draw answers, from what the check of the sheet finds. Assumes nothing.
-use Rattle.std.proofs.Common.{◌<◌, ◌≤◌, ◌≡◌, ap, true, false, arith, replicate, Result, Ok, Err, sym}
+use Rattle.std.proofs.Common.{◌≡◌, true, false, replicate, Result, Ok, Err, sym}
 use Rattle.clauses.specs.declared.Sheet.{Sheet}
 use Rattle.sheet.specs.declared.Findings.{Findings}
 use Rattle.answers.specs.declared.Refusal.TheVariants.{NotSound}
 use Rattle.answers.specs.declared.Refusal.{Refusal}
 use Rattle.sheet.specs.Darts.{Sized}
 use Rattle.sheet.specs.Sound.{Sound}
-use Rattle.sheet.specs.Check.{sound, row_levels, face_table, face_count}
+use Rattle.sheet.specs.Check.{sound}
 use Rattle.sheet.specs.Inner.{findings_in, findings_of}
 use Rattle.sheet.proofs.Found.{found_is}
 use Rattle.soundness.proofs.Law.{sound_law}
@@ -31,22 +31,10 @@ module _ (s : Sheet) where
 pub record Found (s : Sheet) (f : Findings) : Type 0 where
   pub is_so : sound s ≡ true
   pub has_sound : Sound s
-  pub rows_are : f.rows ≡ (row_levels s).level
-  pub faces_are : f.faces ≡ (face_table s).orbit
-  pub count_is : f.count ≡ face_count s
+  pub findings : f ≡ findings_in s
 
+-- and so it is of what it returned
 pub found : {s : Sheet} {f : Findings} {r : Result Findings Refusal} → Sized s → r ≡ findings_of s → r ≡ Ok f → Found s f
-unfolding findings_in
 found {s} z e q =
     let (t, f_is) = found_is s _ e _ q in
-    record {
-      is_so = t;
-      has_sound = (sound_law s z).0 t;
-      rows_are = ap (λ (g : Findings). g.rows) f_is;
-      faces_are = ap (λ (g : Findings). g.faces) f_is;
-      count_is = ap (λ (g : Findings). g.count) f_is;
-    }
-
--- it has an edge, and at most 256
-pub edges_in : {s : Sheet} {f : Findings} → Found s f → (0 < s.edges) × (s.edges ≤ 256)
-edges_in F = let limits = F.has_sound.limits in (omega (arith, limits.edges_least), limits.edges_most)
+    record { is_so = t; has_sound = (sound_law s z).0 t; findings = f_is }

@@ -16,13 +16,20 @@ leading_face side faces k = cond (eqb k 0) (get_or faces (1 - side) 0) (get_or f
 unfoldable pub leading_faces : ℕ → ℕ → List ℕ → List ℕ
 leading_faces m side faces = table (leading_face side faces) m 256 0
 
--- the column of the face beside edge k, less `less`; of edge 0 the column `last`
-unfoldable pub column_beside : List ℕ → List ℕ → ℕ → ℕ → ℕ → ℕ
-column_beside level beside last less k = cond (eqb k 0) last (get_or level (get_or beside k 0) 0 - less)
+-- the left and the right face of each of m edges have a column, the right one of edges but edge 0 a column past the first
+pub record Beside (m : ℕ) (level faces : List ℕ) : Type 0 where
+  pub few : m ≤ 256
+  pub left_in : (k : ℕ) → k < m → get_or faces (2 * k) 0 < 256
+  pub right_in : (k : ℕ) → k < m → get_or faces (2 * k + 1) 0 < 256
+  pub past_first : (k : ℕ) → k < m → k ≢ 0 → 1 ≤ get_or level (get_or faces (2 * k + 1) 0) 0
 
--- the faces beside m edges but edge 0 are in column `less` or right of it
-abbrev pub AtLeast : ℕ → ℕ → List ℕ → List ℕ → Type 0
-AtLeast less m level beside = (k : ℕ) → k < m → k ≢ 0 → less ≤ get_or level (get_or beside k 0) 0
+-- the column of edge k, from the columns of the faces and the faces of the darts
+unfoldable pub column_from : List ℕ → List ℕ → ℕ → ℕ
+column_from level faces k = get_or level (get_or faces (2 * k) 0) 0
+
+-- how far right it lets its vertices go
+unfoldable pub end_from : List ℕ → List ℕ → ℕ → ℕ
+end_from level faces k = cond (eqb k 0) (column_from level faces 0) (get_or level (get_or faces (2 * k + 1) 0) 0 - 1)
 
 -- an edge's segment, from the rows of the vertices and the columns of the edges
 unfoldable pub edge_from : List ℕ → List ℕ → List ℕ → List ℕ → ℕ → EdgeSegment

@@ -4,17 +4,19 @@
 ghost use Rattle.std.specs.Prelude.{◌≡◌, ℕ, ◌≤◌, ◌<◌, get_or};
 ghost use Rattle.digraph.specs.Inner.{Ends};
 ghost use Rattle.sheet.specs.Sound.{Sound};
+ghost use Rattle.sheet.specs.Check.{column_levels};
+ghost use Rattle.sheet.specs.Inner.{findings_in};
 ghost use Rattle.drawing.specs.Draw.{no_vertex_segment, no_edge_segment, draw_call, returned};
 ghost use Rattle.counting.specs.Below.{table};
-ghost use Rattle.draw.specs.Inner.{leading_faces, column_beside, AtLeast, edge_from, unreached_from, segment_from, widened_by, drawing_from};
+ghost use Rattle.draw.specs.Inner.{leading_faces, Beside, column_from, end_from, edge_from, unreached_from, segment_from, widened_by, drawing_from};
 
 use answers::Refusal;
 use digraph::Digraph;
 use drawing::{Drawing, EdgeSegment, VertexSegment};
-use sheet::Sheet;
+use sheet::{Findings, Sheet};
 
 // An array whose first m entries a function gives; the others are `zero`. (`array::from_fn` would go over all N, with a branch at each.)
-fn table<T: Copy, const N: usize, F: Fn(usize) -> T>(m: usize, zero: T, entry: F) -> [T; N]
+pub fn table<T: Copy, const N: usize, F: Fn(usize) -> T>(m: usize, zero: T, entry: F) -> [T; N]
     requires few { m ≤ N }
     requires callable { (k : ℕ) → k < m → F.pre entry k }
     ensures { (of : ℕ → T) → ((k : ℕ) (x : T) → k < m → F.post entry k x → x ≡ of k) → result ≡ table of m N zero }
@@ -44,23 +46,43 @@ fn faces_after(m: usize, faces: &[u16; 512]) -> [u16; 256]
     table(m, 0, |k| if k == 0 { faces[0] } else { faces[2 * k + 1] })
 }
 
-// The column of the face beside each of m edges, less `less`; of edge 0 the column `last`.
-#[tactic(auto, unfolding(crate::specs::Inner::column_beside))]
-fn columns_beside(
-    m: usize,
-    level: &[u16; 256],
-    beside: &[u16; 256],
-    last: u16,
-    less: u16,
-) -> [u16; 256]
-    requires { (0 < m) × Ends 256 m beside.now × AtLeast less m level.now beside.now }
-    ensures { result ≡ table (column_beside level.now beside.now last less) m 256 0 }
+// The column of each face that was found of a sound sheet.
+pub fn face_columns(s: &Sheet, found: &Findings) -> [u16; 256]
+    requires { Sound s.now × (found.now ≡ findings_in s.now) }
+    ensures { result ≡ (column_levels s.now).level }
+{
+    let from = faces_before(s.edges, &found.faces);
+    let to = faces_after(s.edges, &found.faces);
+    // Each edge of it joins two faces, and the faces of a sound sheet make no circle.
+    let graph = Digraph {
+        nodes: found.count,
+        edges: s.edges,
+        from: &from,
+        to: &to,
+    };
+    graph.levels_within().unwrap()
+}
+
+// The column of each of m edges: that of its left face.
+#[tactic(auto, unfolding(crate::specs::Inner::column_from))]
+fn edge_columns(m: usize, level: &[u16; 256], faces: &[u16; 512]) -> [u16; 256]
+    requires { Beside m level.now faces.now }
+    ensures { result ≡ table (column_from level.now faces.now) m 256 0 }
+{
+    table(m, 0, |k| level[usize::from(faces[2 * k])])
+}
+
+// How far right each of m edges lets its vertices go: to the column of its right face, less 1; edge 0 to its own column.
+#[tactic(auto, unfolding(crate::specs::Inner::column_from, crate::specs::Inner::end_from))]
+fn edge_ends(m: usize, level: &[u16; 256], faces: &[u16; 512]) -> [u16; 256]
+    requires { Beside m level.now faces.now }
+    ensures { result ≡ table (end_from level.now faces.now) m 256 0 }
 {
     table(m, 0, |k| {
         if k == 0 {
-            last
+            level[usize::from(faces[0])]
         } else {
-            level[usize::from(beside[k])] - less
+            level[usize::from(faces[2 * k + 1])] - 1
         }
     })
 }
@@ -157,19 +179,9 @@ pub fn draw(s: Sheet) -> Result<Drawing, Refusal>
     ensures { result ≡ draw_call s }
 {
     let found = sheet::examine(s)?;
-    let from = faces_before(s.edges, &found.faces);
-    let to = faces_after(s.edges, &found.faces);
-    // Each edge of it joins two faces, and the faces of a sound sheet make no circle.
-    let graph = Digraph {
-        nodes: found.count,
-        edges: s.edges,
-        from: &from,
-        to: &to,
-    };
-    let level = graph.levels_within().unwrap();
-    let last = level[usize::from(to[0])];
-    let columns = columns_beside(s.edges, &level, &from, last, 0);
-    let ends = columns_beside(s.edges, &level, &to, last, 1);
+    let level = face_columns(&s, &found);
+    let columns = edge_columns(s.edges, &level, &found.faces);
+    let ends = edge_ends(s.edges, &level, &found.faces);
     let places = Places {
         sheet: &s,
         rows: &found.rows,

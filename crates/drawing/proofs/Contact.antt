@@ -42,15 +42,15 @@ module _ {s : Sheet} (S : Sound s) where
   unfolding edge_segment
   edge_high k h = ap (λ z. z.high) (edge_entry s k h) ∙ ap (row s) (sym (ap (vertex s) (dart_opposite true k) ∙ dart_vertex s false k))
 
-  on_edge : {k : ℕ} {p : Point} → k < s.edges → OnEdge D k p → plane.OnEdge (map_of s) (column s) (tail_dart k) p.x p.y p.d
+  pub on_edge : {k : ℕ} {p : Point} → k < s.edges → OnEdge D k p → plane.OnEdge (map_of s) (column s) (tail_dart k) p.x p.y p.d
   unfolding edge_column
   on_edge {k} h q = record { here = rw (edge_stands s k h) at q.upright; from = rw (edge_low k h) at q.from_low; to = rw (edge_high k h) at q.to_high }
 
-  on_vertex : {v : ℕ} {p : Point} → v < s.vertices → OnVertex D v p → plane.OnVertex (map_of s) (first_column s) (last_column s) v p.x p.y p.d
+  pub on_vertex : {v : ℕ} {p : Point} → v < s.vertices → OnVertex D v p → plane.OnVertex (map_of s) (first_column s) (last_column s) v p.x p.y p.d
   unfolding vertex_segment
   on_vertex {v} h q = record { here = rw (vertex_entry s v h) at q.level; from = rw (vertex_entry s v h) at q.from_first; to = rw (vertex_entry s v h) at q.to_last }
 
-  edge_of_law : {k : ℕ} → k < s.edges → Edge (map_of s) (tail_dart k)
+  pub edge_of_law : {k : ℕ} → k < s.edges → Edge (map_of s) (tail_dart k)
   edge_of_law {k} h = record { below = dart_below true h; is_out = dart_kind true k }
 
   -- ---- points in common

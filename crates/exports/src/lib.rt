@@ -9,6 +9,7 @@ ghost use Rattle.orbits.specs.Tables.{traced};
 ghost use Rattle.sheet.specs.Check.{sound};
 ghost use Rattle.answers.specs.Answers.{answer_number};
 ghost use Rattle.tracefaces.specs.Call.{trace_faces_call, returned};
+ghost use Rattle.insulationmask.specs.Mask.{insulation_mask_call, returned as returned_mask};
 ghost use Rattle.load.specs.Load.{load, load_links};
 ghost use Rattle.writesheet.specs.Write.{write_sheet, buffer_after_sheet};
 ghost use Rattle.edit.specs.Lines.{read_edit};
@@ -20,13 +21,16 @@ ghost use Rattle.replay.specs.Encoded.{calls_of};
 ghost use Rattle.replay.specs.Replayed.{Replayed};
 ghost use Rattle.sheet.specs.Darts.{sheet_of};
 ghost use Rattle.exports.specs.Sheets.{Parts, Changed, Filled};
+ghost use Rattle.exports.specs.Masks.{segment_by_kind, mask_by_kinds};
 
 use answers::Refusal;
 use digraph::Digraph;
 use drawing::Drawing;
 use edit::Edit;
+use insulationmask::Mask;
 use load::Loaded;
 use orbits::Traced;
+use segments::{Frame, Segment};
 use sheet::Sheet;
 
 // The level of each node of a digraph; false where there is a circle.
@@ -134,6 +138,74 @@ pub extern "C" fn walnut_trace_faces(
     let traced = tracefaces::trace_faces(sheet_of(vertices, edges, tails, heads, nexts));
     let number = answers::answer_number(&traced);
     *faces = tracefaces::returned(traced);
+    number
+}
+
+// A segment of a mask, its kind a number in the C interface: 0 upright, at x from low to high; 1 level, at y from left to right.
+#[repr(C)]
+#[derive(Clone, Copy)]
+pub struct SegmentByKind {
+    pub kind: u16,
+    pub at: f32,
+    pub from: f32,
+    pub to: f32,
+}
+
+// A mask with such segments.
+#[repr(C)]
+#[derive(Clone, Copy)]
+pub struct MaskByKinds {
+    pub count: usize,
+    pub segments: [SegmentByKind; 511],
+    pub frame: Frame,
+}
+
+#[tactic(auto, unfolding(crate::specs::Masks::segment_by_kind))]
+fn segment_by_kind(segment: Segment) -> SegmentByKind
+    ensures { result ≡ segment_by_kind segment }
+{
+    match segment {
+        Segment::Upright(x, low, high) => SegmentByKind {
+            kind: 0,
+            at: x,
+            from: low,
+            to: high,
+        },
+        Segment::Level(y, left, right) => SegmentByKind {
+            kind: 1,
+            at: y,
+            from: left,
+            to: right,
+        },
+    }
+}
+
+// A mask put into a place for such segments.
+fn put_mask(mask: Mask, place: &mut MaskByKinds)
+    ensures { place.new ≡ mask_by_kinds mask }
+{
+    place.count = mask.count;
+    place.frame = mask.frame;
+    for i in 0..511 {
+        place.segments[i] = segment_by_kind(mask.segments[i]);
+    }
+}
+
+// The insulation mask takes the place of the lent one: refused, no segments and a frame of four zeros.
+#[unsafe(no_mangle)]
+pub extern "C" fn walnut_insulation_mask(
+    vertices: usize,
+    edges: usize,
+    tails: &[u16; 256],
+    heads: &[u16; 256],
+    nexts: &[u16; 512],
+    mask: &mut MaskByKinds,
+) -> u16
+    ensures { (result ≡ answer_number (insulation_mask_call (sheet_of vertices edges tails.now heads.now nexts.now))) × (mask.new ≡ mask_by_kinds (returned_mask (insulation_mask_call (sheet_of vertices edges tails.now heads.now nexts.now)))) }
+{
+    let found = insulationmask::insulation_mask(sheet_of(vertices, edges, tails, heads, nexts));
+    let number = answers::answer_number(&found);
+    put_mask(insulationmask::returned(found), mask);
     number
 }
 

@@ -93,7 +93,7 @@ module _ {M : Map} (P : Plane M) {column : ℕ → ℕ} (L : ColumnLaws M column
 
   module _ {first last : ℕ → ℕ} (X : Extent M column first last) where
     -- a vertex other than 0 and 1 has a front edge that leaves it, for each column that it covers
-    covers : {v c : ℕ} → v < M.vertices → v ≢ 0 → v ≢ 1 → first v ≤ c → c ≤ last v → (e : ℕ) × (M.vertex e ≡ v) × Front M (up_to column c) true e
+    pub covers : {v c : ℕ} → v < M.vertices → v ≢ 0 → v ≢ 1 → first v ≤ c → c ≤ last v → (e : ℕ) × (M.vertex e ≡ v) × Front M (up_to column c) true e
     covers {v} {c} h n0 n1 a b =
         let (l, A, al) = (has_corners B).left h n0 n1 in
         let (k, Z, ak) = (has_corners B).right h n0 n1 in

@@ -6,7 +6,7 @@ use Rattle.planarmap.specs.Contact.{Under, Apart, OnEdge, Joins, NoContact}
 
 module _ {unit : ℕ} (u : 0 < unit) where
   -- an order of multiples of the unit is one of the numbers
-  le_off : (a b : ℕ) → a * unit ≤ b * unit → a ≤ b
+  pub le_off : (a b : ℕ) → a * unit ≤ b * unit → a ≤ b
   le_off a b h = le_of_mul-le-mul_right h u
 
   eq_off : (a b : ℕ) → a * unit ≡ b * unit → a ≡ b

@@ -1,0 +1,4 @@
+pub mod Literal
+pub mod Exact
+pub mod Order
+pub mod Fractions

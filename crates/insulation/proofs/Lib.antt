@@ -1,0 +1,4 @@
+pub mod Beside
+pub mod Apart
+pub mod Points
+pub mod Example

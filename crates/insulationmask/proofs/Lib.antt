@@ -1,0 +1,12 @@
+pub mod Places
+pub mod Uprights
+pub mod Coordinates
+pub mod Laid
+pub mod Once
+pub mod Answered
+pub mod Placed
+pub mod Widening
+pub mod Filled
+pub mod Outcome
+pub mod Crossing
+pub mod Demand
