@@ -10,7 +10,9 @@ use reference::generate::{
     permutation, random_sheet, torus, Random, Records,
 };
 use reference::write::drawing_text;
-use reference::{apply, check_drawing, draw, is_sound, levels, trace, Drawing, Sheet};
+use reference::{
+    apply, check_drawing, draw, is_sound, levels, mask_in_halves, trace, Drawing, Sheet,
+};
 
 #[test]
 fn soundness_of_records() {
@@ -56,6 +58,17 @@ fn drawings() {
     for _ in 0..1200 {
         let sheet = random_sheet(random);
         assert_eq!(draw(&sheet), (Ok(()), slow::drawing(&sheet)));
+    }
+}
+
+/// The segments by sets of heights, faces named by their lowest ends.
+#[test]
+fn masks() {
+    let random = &mut Random::new(16);
+    for _ in 0..1200 {
+        let sheet = random_sheet(random);
+        let (answer, mask) = mask_in_halves(&sheet);
+        assert_eq!((answer, mask.used()), (Ok(()), &slow::mask(&sheet)[..]), "{sheet:?}");
     }
 }
 

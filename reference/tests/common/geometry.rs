@@ -4,7 +4,9 @@
 //! numbers: where two segments share any point they share a grid point, and where they share a
 //! stretch they share a point half way between two grid points.
 
-use reference::{Drawing, Sheet};
+use std::collections::BTreeMap;
+
+use reference::{Drawing, MaskSegment, Sheet};
 
 #[derive(Clone, Copy, Debug)]
 enum Piece {
@@ -153,4 +155,45 @@ fn check_length(sheet: &Sheet, drawing: &Drawing, v: usize) -> Result<(), String
         })
     };
     hold(ends, || format!("length of bar {v}: {bar:?}"))
+}
+
+/// Plate and mask in one figure, the mask in halves, which are doubled coordinates: at a point of a mask
+/// segment there is no bar and no wire but its own, and its own at exactly one, which is no end. Two that
+/// share a stretch share more than one of these points.
+pub fn check_insulation(
+    sheet: &Sheet,
+    drawing: &Drawing,
+    mask: &[MaskSegment<i32>],
+) -> Result<(), String> {
+    let mut plate: BTreeMap<(i32, i32), Vec<Piece>> = BTreeMap::new();
+    for ((x, y), piece) in points(sheet, drawing) {
+        plate.entry((x.into(), y.into())).or_default().push(piece);
+    }
+    let mut crossings = vec![0; sheet.edges];
+    for (i, segment) in mask.iter().enumerate() {
+        let points: Vec<(i32, i32)> = match *segment {
+            MaskSegment::Upright(x, low, high) => (low..=high).map(|y| (x, y)).collect(),
+            MaskSegment::Level(y, left, right) => (left..=right).map(|x| (x, y)).collect(),
+        };
+        hold(!points.is_empty(), || format!("{segment:?} has no point"))?;
+        for (j, point) in points.iter().enumerate() {
+            for &piece in plate.get(point).into_iter().flatten() {
+                // Wire k's own segment has as many after it as wire k has.
+                let own =
+                    matches!(piece, Piece::Wire(k) if k > 0 && k + mask.len() == i + sheet.edges);
+                let inside = j > 0 && j + 1 < points.len() && !is_end(drawing, piece, *point);
+                hold(own && inside, || format!("{segment:?} and {piece:?} at {point:?}"))?;
+                if let Piece::Wire(k) = piece {
+                    crossings[k] += 1;
+                }
+            }
+        }
+    }
+    hold(crossings[1..].iter().all(|&count| count == 1), || format!("crossings: {crossings:?}"))
+}
+
+/// Whether a wire ends at the point.
+fn is_end(drawing: &Drawing, piece: Piece, at: (i32, i32)) -> bool {
+    let Piece::Wire(k) = piece else { return false };
+    [drawing.edges[k].low, drawing.edges[k].high].iter().any(|&row| 2 * i32::from(row) == at.1)
 }

@@ -2,7 +2,7 @@
 
 use std::collections::{BTreeMap, BTreeSet};
 
-use reference::{Drawing, EdgeSegment, Sheet, VertexSegment};
+use reference::{Drawing, EdgeSegment, MaskSegment, Sheet, VertexSegment};
 
 fn bar_of(sheet: &Sheet, end: usize) -> usize {
     [sheet.tails[end / 2], sheet.heads[end / 2]][end % 2] as usize
@@ -183,4 +183,27 @@ pub fn drawing(sheet: &Sheet) -> Drawing {
         };
     }
     drawing
+}
+
+/// The segments of the mask of a sound sheet, in halves. Each wire but 0 puts its height into the sets of its
+/// two faces, which come in the order of their names, their lowest ends.
+pub fn mask(sheet: &Sheet) -> Vec<MaskSegment<i32>> {
+    let rows = longest(0, &wire_steps(sheet));
+    let columns = face_columns(sheet);
+    let x = |face: usize| 2 * columns[&face] as i32 - 1;
+    let mut heights: BTreeMap<usize, BTreeSet<i32>> = BTreeMap::new();
+    let mut levels = Vec::new();
+    for k in 1..sheet.edges {
+        let height = 2 * rows[&(sheet.tails[k] as usize)] as i32 + 1;
+        let [left, right] = [2 * k, 2 * k + 1].map(|end| face_of(sheet, end));
+        for face in [left, right] {
+            heights.entry(face).or_default().insert(height);
+        }
+        levels.push(MaskSegment::Level(height, x(left), x(right)));
+    }
+    let end = |end: Option<&i32>| *end.expect("a height");
+    let upright = |(face, heights): (&usize, &BTreeSet<i32>)| {
+        MaskSegment::Upright(x(*face), end(heights.first()), end(heights.last()))
+    };
+    heights.iter().map(upright).chain(levels).collect()
 }
