@@ -3,7 +3,8 @@
 //! Bars are vertices, wires edges, ends darts (2k at the tail of edge k, 2k + 1 at its head). Answers are numbers, 0 for
 //! acceptance. The tests below hold it to the reference implementation.
 
-use reference::{Edit, Sheet, MAX_DARTS, MAX_EDGES, MAX_VERTICES};
+use proved::{LentMask, LentSegment};
+use reference::{Edit, Sheet, MAX_DARTS, MAX_EDGES, MAX_SEGMENTS, MAX_VERTICES};
 
 // This one of the reference is such code already.
 pub use reference::trace;
@@ -638,6 +639,38 @@ pub fn write_drawing_by(s: &Sheet, buffer: &mut [u8], face: impl Fn(&Faces, usiz
     }
 }
 
+/// The insulation mask, put into the lent one. Each face keeps the lowest and the highest row of the edges beside it.
+pub fn insulation_mask(s: &Sheet, mask: &mut LentMask) -> u16 {
+    let none = LentSegment { kind: 0, numbers: [0.0; 3] };
+    let Some(survey) = survey(s) else {
+        *mask = LentMask { count: 0, segments: [none; MAX_SEGMENTS], frame: [0.0; 4] };
+        return 9;
+    };
+    let Survey { rows, faces, .. } = &survey;
+    let by_face = columns(s, faces.count, |walk| faces.of[walk]);
+    let x = by_face.map(|column| f32::from(column) - 0.5);
+    let (mut low, mut high) = ([u16::MAX; MAX_EDGES], [0; MAX_EDGES]);
+    let (uprights, levels) = mask.segments.split_at_mut(faces.count);
+    for k in 1..s.edges {
+        let row = rows[usize::from(s.tails[k])];
+        let [left, right] = [2 * k, 2 * k + 1].map(|walk| usize::from(faces.of[walk]));
+        for face in [left, right] {
+            low[face] = low[face].min(row);
+            high[face] = high[face].max(row);
+        }
+        levels[k - 1] = LentSegment { kind: 1, numbers: [f32::from(row) + 0.5, x[left], x[right]] };
+    }
+    levels[s.edges - 1..].fill(none);
+    for (face, upright) in uprights.iter_mut().enumerate() {
+        *upright = LentSegment { kind: 0, numbers: [x[face], f32::from(low[face]) + 0.5, f32::from(high[face]) + 0.5] };
+    }
+    mask.count = faces.count + s.edges - 1;
+    // The first column and the last, that of the face left of edge 0; the row of vertex 0 and the last below vertex 1: an edge
+    // but 0 leaves each.
+    mask.frame = [-0.5, x[usize::from(faces.of[0])], 0.5, f32::from(rows[1]) - 0.5];
+    0
+}
+
 /// The edit that a line reads as, its end taken off.
 fn edit_of(line: &[u8]) -> Option<Edit> {
     let (key, numbers) = line.split_at(line.iter().position(|&byte| byte == b'=')? + 1);
@@ -718,6 +751,10 @@ mod tests {
             assert_eq!(is_sound(&s), reference::is_sound(&s));
             let (answer, faces) = reference::trace_faces(&s);
             assert_eq!(trace_faces(&s), (number(answer), faces));
+            let (answer, mask) = reference::insulation_mask(&s);
+            let mut lent = LentMask::full();
+            assert_eq!(insulation_mask(&s, &mut lent), number(answer));
+            assert!(lent.mask().map(f32::to_bits) == mask.map(f32::to_bits));
             for room in [0, 3_000, TEXT] {
                 same_text(|buffer| write_sheet(&s, buffer), |buffer| reference::write_sheet(&s, buffer), room);
                 same_text(|buffer| write_drawing(&s, buffer), |buffer| reference::write_drawing(&s, buffer), room);

@@ -28,10 +28,14 @@ impl Least {
     }
 }
 
-/// The times of a call of three sides, which take turns for some rounds.
-pub fn times<Input>(rounds: usize, inputs: &[Input], mut calls: [&mut dyn FnMut(&Input); 3]) -> [f64; 3] {
+/// The times of a call of some sides, which take turns for some rounds.
+pub fn times<Input, const SIDES: usize>(
+    rounds: usize,
+    inputs: &[Input],
+    mut calls: [&mut dyn FnMut(&Input); SIDES],
+) -> [f64; SIDES] {
     assert_eq!(inputs.len(), INPUTS);
-    let mut least = [0; 3].map(|_| Least([f64::MAX; INPUTS / GROUP]));
+    let mut least = [0; SIDES].map(|_| Least([f64::MAX; INPUTS / GROUP]));
     for _ in 0..rounds {
         for (least, call) in least.iter_mut().zip(&mut calls) {
             least.round(inputs, *call);

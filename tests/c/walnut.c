@@ -160,6 +160,68 @@ static void check_trace_faces(void) {
     check(trace_faces(&s, faces) == 9 && same_faces(faces, NULL, 0), "so are more bars than there can be");
 }
 
+static bool same_bits(float x, float y) { return memcmp(&x, &y, sizeof x) == 0; }
+
+static bool same_segment(const walnut_segment *s, const walnut_segment *t) {
+    return s->kind == t->kind && same_bits(s->at, t->at) && same_bits(s->from, t->from) && same_bits(s->to, t->to);
+}
+
+/* The mask holds these segments, uprights of three zeros past them, and this frame. */
+static bool same_mask(const walnut_mask *mask, const walnut_segment *front, size_t count, const walnut_frame *frame) {
+    static const walnut_segment none = {WALNUT_UPRIGHT, 0, 0, 0};
+    size_t i = 0;
+    while (i < WALNUT_SEGMENTS && same_segment(&mask->segments[i], i < count ? &front[i] : &none)) i++;
+    return i == WALNUT_SEGMENTS && mask->count == count && memcmp(&mask->frame, frame, sizeof *frame) == 0;
+}
+_Static_assert(sizeof(walnut_frame) == 4 * sizeof(float), "a frame has no padding");
+_Static_assert(sizeof(walnut_segment) == 16 && sizeof(walnut_mask) == sizeof(size_t) + 16 * WALNUT_SEGMENTS + sizeof(walnut_frame),
+               "a mask is as the library lays it out");
+
+static uint16_t insulation_mask(const walnut_sheet *s, walnut_mask *mask) {
+    mask->count = 999;
+    for (size_t i = 0; i < WALNUT_SEGMENTS; i++) mask->segments[i] = (walnut_segment){WALNUT_LEVEL, 9, 9, 9};
+    mask->frame = (walnut_frame){9, 9, 9, 9};
+    return walnut_insulation_mask(WALNUT_READ(s), mask);
+}
+
+static void check_insulation_mask(void) {
+    /* The fresh sheet: face 0 is left of wire 0, in column 1, and face 1 left of wire 1, in column 0. Wire 1 goes up from row 0, from
+     * face 1 to face 0. */
+    static const walnut_segment of_fresh[3] = {
+        {WALNUT_UPRIGHT, 0.5f, 0.5f, 0.5f}, {WALNUT_UPRIGHT, -0.5f, 0.5f, 0.5f}, {WALNUT_LEVEL, 0.5f, -0.5f, 0.5f}};
+    static const walnut_frame frame_of_fresh = {-0.5f, 0.5f, 0.5f, 0.5f}, zeros = {0, 0, 0, 0};
+    /* P4: faces 0 to 3 are in columns 3, 0, 2, 1; wires 1 to 5 go up from rows 0, 1, 0, 2, 1, each from the face left of it to the face
+     * right of it: 1 to 2, 1 to 3, 2 to 0, 3 to 0, 3 to 2. */
+    static const walnut_segment of_p4[9] = {
+        {WALNUT_UPRIGHT, 2.5f, 0.5f, 2.5f}, {WALNUT_UPRIGHT, -0.5f, 0.5f, 1.5f}, {WALNUT_UPRIGHT, 1.5f, 0.5f, 1.5f},
+        {WALNUT_UPRIGHT, 0.5f, 1.5f, 2.5f}, {WALNUT_LEVEL, 0.5f, -0.5f, 1.5f},   {WALNUT_LEVEL, 1.5f, -0.5f, 0.5f},
+        {WALNUT_LEVEL, 0.5f, 1.5f, 2.5f},   {WALNUT_LEVEL, 2.5f, 0.5f, 2.5f},    {WALNUT_LEVEL, 1.5f, 0.5f, 1.5f}};
+    static const walnut_frame frame_of_p4 = {-0.5f, 2.5f, 0.5f, 2.5f};
+    /* P4 after `in=1`, with a bar that goes on to column 1: the same faces; wires 1 to 6 go up from rows 0, 2, 0, 3, 2, 1, the last from
+     * face 1 to face 2. */
+    static const walnut_segment of_p4_in[10] = {
+        {WALNUT_UPRIGHT, 2.5f, 0.5f, 3.5f}, {WALNUT_UPRIGHT, -0.5f, 0.5f, 2.5f}, {WALNUT_UPRIGHT, 1.5f, 0.5f, 2.5f},
+        {WALNUT_UPRIGHT, 0.5f, 2.5f, 3.5f}, {WALNUT_LEVEL, 0.5f, -0.5f, 1.5f},   {WALNUT_LEVEL, 2.5f, -0.5f, 0.5f},
+        {WALNUT_LEVEL, 0.5f, 1.5f, 2.5f},   {WALNUT_LEVEL, 3.5f, 0.5f, 2.5f},    {WALNUT_LEVEL, 2.5f, 0.5f, 1.5f},
+        {WALNUT_LEVEL, 1.5f, -0.5f, 1.5f}};
+    static const walnut_frame frame_of_p4_in = {-0.5f, 2.5f, 0.5f, 3.5f};
+    walnut_sheet s = WALNUT_FRESH_SHEET;
+    walnut_mask mask;
+    size_t taken;
+    check(insulation_mask(&s, &mask) == 0 && same_mask(&mask, of_fresh, 3, &frame_of_fresh), "the mask of the fresh sheet");
+    check(load(&s, p4, &taken) == 0 && insulation_mask(&s, &mask) == 0 && same_mask(&mask, of_p4, 9, &frame_of_p4), "the mask of P4");
+    check(load(&s, p4_in, &taken) == 0 && insulation_mask(&s, &mask) == 0 && same_mask(&mask, of_p4_in, 10, &frame_of_p4_in),
+          "the mask of P4 after in=1");
+    load(&s, p4, &taken);
+    s.nexts[511] = 1;
+    check(insulation_mask(&s, &mask) == 9 && same_mask(&mask, NULL, 0, &zeros), "an unused entry of 1 is refused 9, with no segments and zeros");
+    s.nexts[511] = 0;
+    s.nexts[0] = 0, s.nexts[6] = 2;
+    check(insulation_mask(&s, &mask) == 9 && same_mask(&mask, NULL, 0, &zeros), "two rings at bar 0 are refused 9, with no segments and zeros");
+    s.wires = SIZE_MAX;
+    check(insulation_mask(&s, &mask) == 9 && same_mask(&mask, NULL, 0, &zeros), "so are more wires than there can be");
+}
+
 static void check_writers(void) {
     walnut_sheet s;
     size_t taken, count = 99;
@@ -316,6 +378,7 @@ int main(void) {
     check_load();
     check_load_links();
     check_trace_faces();
+    check_insulation_mask();
     check_writers();
     check_drawings();
     check_edits();

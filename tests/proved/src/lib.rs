@@ -3,7 +3,7 @@
 //! The declarations below are the C names that the crate `exports` gives the calls. Nothing checks them against the
 //! source, so this file is the only place that has them.
 
-use reference::{Drawing, EdgeSegment, Edit, Sheet, VertexSegment};
+use reference::{Drawing, EdgeSegment, Edit, Frame, Mask, MaskSegment, Sheet, VertexSegment, MAX_SEGMENTS};
 
 mod calls {
     /// A drawing as the proved library lays it out: each bar and each wire is three numbers.
@@ -38,6 +38,14 @@ mod calls {
             heads: &[u16; 256],
             nexts: &[u16; 512],
             faces: &mut [u16; 512],
+        ) -> u16;
+        pub fn walnut_insulation_mask(
+            vertices: usize,
+            edges: usize,
+            tails: &[u16; 256],
+            heads: &[u16; 256],
+            nexts: &[u16; 512],
+            mask: &mut super::LentMask,
         ) -> u16;
         pub fn walnut_load(
             text: *const u8,
@@ -163,6 +171,65 @@ pub fn trace_faces(sheet: &Sheet) -> (u16, [u16; 512]) {
         )
     };
     (number, faces)
+}
+
+/// A segment of a mask as the proved library lays it out: its kind, 0 for upright and 1 for level, then where it is, and
+/// from where to where it runs.
+#[repr(C)]
+#[derive(Clone, Copy, Debug)]
+pub struct LentSegment {
+    pub kind: u16,
+    pub numbers: [f32; 3],
+}
+
+/// A mask as the proved library lays it out, to be lent to the call.
+#[repr(C)]
+#[derive(Clone, Copy, Debug)]
+pub struct LentMask {
+    pub count: usize,
+    pub segments: [LentSegment; MAX_SEGMENTS],
+    pub frame: [f32; 4],
+}
+
+impl LentMask {
+    /// Full of what no mask has, which would show where the call leaves it.
+    pub fn full() -> LentMask {
+        let segment = LentSegment { kind: 1, numbers: [f32::NAN; 3] };
+        LentMask { count: 999, segments: [segment; MAX_SEGMENTS], frame: [f32::NAN; 4] }
+    }
+
+    /// The same as the reference has it.
+    pub fn mask(&self) -> Mask<f32> {
+        let segment = |LentSegment { kind, numbers: [at, from, to] }: LentSegment| match kind {
+            0 => MaskSegment::Upright(at, from, to),
+            1 => MaskSegment::Level(at, from, to),
+            _ => panic!("a segment of kind {kind}"),
+        };
+        let [least_x, greatest_x, least_y, greatest_y] = self.frame;
+        let frame = Frame { least_x, greatest_x, least_y, greatest_y };
+        Mask { count: self.count, segments: self.segments.map(segment), frame }
+    }
+}
+
+/// The insulation mask, put into the lent one: the answer's number, 0 for acceptance.
+pub fn insulation_mask_into(sheet: &Sheet, mask: &mut LentMask) -> u16 {
+    unsafe {
+        calls::walnut_insulation_mask(
+            sheet.vertices,
+            sheet.edges,
+            &sheet.tails,
+            &sheet.heads,
+            &sheet.nexts,
+            mask,
+        )
+    }
+}
+
+/// The insulation mask: the answer's number and the mask.
+pub fn insulation_mask(sheet: &Sheet) -> (u16, Mask<f32>) {
+    let mut lent = LentMask::full();
+    let number = insulation_mask_into(sheet, &mut lent);
+    (number, lent.mask())
 }
 
 /// A load under its C name.

@@ -2,10 +2,9 @@
 //! column loop; and time of trace faces. All in one run on the same sheets of 256 wires.
 
 mod anew;
-mod nets;
 
-use bench::plain;
 use bench::timing::{several, times};
+use bench::{nets, plain};
 use reference::generate::Random;
 use reference::Sheet;
 use std::hint::black_box;

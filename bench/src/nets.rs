@@ -1,6 +1,6 @@
 //! Nets of 256 wires with faces of different lengths. A face of a sound sheet meets no bar twice, so it has at most 128 ends.
 
-use bench::shapes;
+use crate::shapes;
 use reference::generate::{grown, link_text, renumbered, sheets, Random};
 use reference::{apply, load_links, Edit, Sheet, MAX_EDGES};
 
