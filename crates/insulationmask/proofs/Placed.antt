@@ -1,11 +1,11 @@
 -- Where the parts of a sound sheet lie: what the arrays hold, and how many parts there are. Assumes nothing.
 use Rattle.std.proofs.Common.{◌≡◌, ℕ, ◌+◌, ◌-◌, ◌*◌, ◌≤◌, ◌<◌, get_or, arith, refl}
-use Rattle.soundness.proofs.Columns.{columns_within, column_law}
-use Rattle.clauses.specs.Darts.{tail_dart, head_dart}
+use Rattle.soundness.proofs.Columns.{columns_within}
 use Rattle.clauses.specs.declared.Sheet.{Sheet}
 use Rattle.sheet.specs.Levels.{left_face, right_face}
 use Rattle.sheet.specs.Check.{face, face_count, column}
 use Rattle.sheet.specs.Inner.{findings_in}
+use Rattle.draw.proofs.Columns.{beside}
 use Rattle.insulationmask.specs.declared.Placement.{Placement}
 use Rattle.insulationmask.specs.Mask.{level_row}
 use Rattle.insulationmask.specs.Inner.{Placed}
@@ -51,7 +51,9 @@ module _ {p : Placement} (P : Placed p) where
   right_at k = rw P.found refl
 
   pub left_below : (k : ℕ) → k < s.edges → get_or p.found.now.faces (2 * k) 0 < 256
-  left_below k h = omega (arith, left_at k, (column_law P.sound).faces.inside (tail_dart k) (omega arith), faces_fit)
+  unfolding findings_in
+  left_below k h = rw P.found ((beside P.sound).left_in k h)
 
   pub right_below : (k : ℕ) → k < s.edges → get_or p.found.now.faces (2 * k + 1) 0 < 256
-  right_below k h = omega (arith, right_at k, (column_law P.sound).faces.inside (head_dart k) (omega arith), faces_fit)
+  unfolding findings_in
+  right_below k h = rw P.found ((beside P.sound).right_in k h)
