@@ -16,7 +16,7 @@ fn are_nodes(ends: &[u16; 256], edges: usize, nodes: usize) -> bool
 }
 
 // For each node the number of the edges into it.
-fn waiting_edges(edges: usize, to: &[u16; 256]) -> [u16; 256]
+pub fn waiting_edges(edges: usize, to: &[u16; 256]) -> [u16; 256]
     requires { Ends 256 edges to.now }
     ensures { Waiting edges to.now (λ j. true) result }
 {
@@ -29,7 +29,7 @@ fn waiting_edges(edges: usize, to: &[u16; 256]) -> [u16; 256]
 
 // Puts the nodes for which no edge waits in the queue; returns how many there are.
 #[tactic(auto, using(crate::proofs::Waits::places))]
-fn sources(nodes: usize, waiting: &[u16; 256], queue: &mut [u16; 256]) -> usize
+pub fn sources(nodes: usize, waiting: &[u16; 256], queue: &mut [u16; 256]) -> usize
     requires { nodes ≤ 256 }
     ensures { Queued nodes waiting.now queue.new result }
 {

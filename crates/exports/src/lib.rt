@@ -50,9 +50,16 @@ pub extern "C" fn walnut_levels(
         from,
         to,
     };
-    let found = graph.levels();
-    *level = found.unwrap_or([0u16; 256]);
-    found.is_some()
+    match graph.levels() {
+        Some(levels) => {
+            *level = levels;
+            true
+        }
+        None => {
+            *level = [0u16; 256];
+            false
+        }
+    }
 }
 
 // The orbit of each element of a permutation that is given as a table, and how many orbits there are.
@@ -226,6 +233,7 @@ pub extern "C" fn walnut_check_drawing(
 }
 
 // What a load returns takes the place of the present sheet; its number.
+#[tactic(auto, unfolding(load::specs::Load::returned, answers::specs::Answers::answer_number))]
 fn put_loaded(
     answer: Result<Loaded, Refusal>,
     vertices: &mut usize,
@@ -237,12 +245,18 @@ fn put_loaded(
 ) -> u16
     ensures { Parts answer (sheet_of vertices.old edges.old tails.old heads.old nexts.old) result vertices.new edges.new tails.new heads.new nexts.new taken.new }
 {
-    let present = sheet_of(*vertices, *edges, tails, heads, nexts);
-    let number = answers::answer_number(&answer);
-    let loaded = load::returned(answer, present);
-    put_parts(loaded.sheet, vertices, edges, tails, heads, nexts);
-    *taken = loaded.taken;
-    number
+    // Refused, the present sheet comes back: the parts keep it, and nothing is copied.
+    match answer {
+        Ok(loaded) => {
+            put_parts(loaded.sheet, vertices, edges, tails, heads, nexts);
+            *taken = loaded.taken;
+            0
+        }
+        Err(refusal) => {
+            *taken = 0;
+            refusal.number()
+        }
+    }
 }
 
 // Load. The present sheet is lent in parts, and the sheet that load returns takes its place: for a text of no bytes the fresh one, with 0 bytes taken.
@@ -330,6 +344,7 @@ fn edit_by(kind: u16, s: Sheet, a: usize, p: usize, b: usize, q: usize) -> Resul
 
 // An edit. The sheet is lent in parts, and the sheet that the edit returns takes its place.
 #[unsafe(no_mangle)]
+#[tactic(auto, unfolding(edit::specs::Calls::sheet_after, answers::specs::Answers::answer_number))]
 pub extern "C" fn walnut_edit(
     kind: u16,
     a: usize,
@@ -344,12 +359,16 @@ pub extern "C" fn walnut_edit(
 ) -> u16
     ensures { Changed (edit_by kind a p b q (sheet_of vertices.old edges.old tails.old heads.old nexts.old)) (sheet_of vertices.old edges.old tails.old heads.old nexts.old) result vertices.new edges.new tails.new heads.new nexts.new }
 {
+    // A refused edit hands back what it got: the parts keep it, and nothing is copied.
     let present = sheet_of(*vertices, *edges, tails, heads, nexts);
     let edited = edit_by(kind, present, a, p, b, q);
-    let number = answers::answer_number(&edited);
-    let sheet = edit::sheet_after(present, edited);
-    put_parts(sheet, vertices, edges, tails, heads, nexts);
-    number
+    match edited {
+        Ok(made) => {
+            put_parts(made, vertices, edges, tails, heads, nexts);
+            0
+        }
+        Err(refusal) => refusal.number(),
+    }
 }
 
 // A list of calls from the fresh sheet, five numbers a call: its kind (0 in, 1 run, 2 out, 3 off, 4 load; any other is refused 10) and four numbers;

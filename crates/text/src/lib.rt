@@ -21,7 +21,7 @@ pub struct Numbers {
 }
 
 // The byte at a place, 0 past the end: the definitions read a text so, and no rule names a byte 0.
-fn byte(s: &[u8], at: usize) -> u8
+pub fn byte(s: &[u8], at: usize) -> u8
     ensures { result ≡ get_or s.now at 0 }
 {
     s.get(at).copied().unwrap_or(0)

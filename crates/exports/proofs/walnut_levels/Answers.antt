@@ -9,9 +9,6 @@ some_where : (b : Bool) (x : List ℕ) → is_some (then_some b x) ≡ b
 some_where true x = refl
 some_where false x = refl
 
-pub returns : goal.returns
+pub returns-in-None : goal.returns-in-None
 unfolding flat
-returns c = (
-  c.is_some.ensures ∙ ap is_some c.levels-found.ensures ∙ some_where _ _,
-  c.unwrap_or.ensures ∙ ap (λ o. unwrap_or o flat) c.levels-found.ensures ∙ levels_or_flat _ _ _ _,
-)
+returns-in-None c = (ap is_some c.in-None.ensures ∙ some_where _ _, ap (λ o. unwrap_or o flat) c.in-None.ensures ∙ levels_or_flat _ _ _ _)
