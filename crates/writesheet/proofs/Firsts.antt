@@ -96,12 +96,12 @@ module _ {s : Sheet} (S : Sound s) where
   next_below d h = (rotation_of S).perm.below d h
 
   -- entry v of those that the vertices have
-  module _ {firsts : List ℕ} (n : length firsts ≡ s.vertices) (F : Firsts s firsts) (v : ℕ) (h : v < length firsts) (first : ℕ) (e : first ≡ get_or firsts v 0) where
+  module _ {firsts : List ℕ} (F : Firsts s firsts) (v : ℕ) (h : v < s.vertices) (first : ℕ) (e : first ≡ get_or firsts v 0) where
     first_is : first ≡ lowest_dart s v
-    first_is = e ∙ F.each v (omega arith)
+    first_is = e ∙ F.each v h
 
     pub first_below : first < darts s
-    first_below = omega (arith, first_is, lowest_below_law v (omega arith))
+    first_below = omega (arith, first_is, lowest_below_law v h)
 
     pub ring_listed : ring_from (darts s) s first first ≡ rotation s v
     unfolding rotation

@@ -14,7 +14,7 @@ use Rattle.writesheet.proofs.Firsts.{ring_listed}
 -- the line from a vertex's lowest dart is the vertex's
 pub ring_line_law : {s : Sheet} (S : Sound s) {firsts : List ℕ} → length firsts ≡ s.vertices → Firsts s firsts → (v : ℕ) → v < length firsts → (first : ℕ) → first ≡ get_or firsts v 0
     → ring_line s first ≡ ring_text s v
-ring_line_law {s} S n F v h first e = ap (line around_key) (ring_listed S n F v h first e)
+ring_line_law {s} S n F v h first e = ap (line around_key) (ring_listed S F v (omega (arith, n)) first e)
 
 -- the line of edge k, by its numbers
 pub edge_line_law : (s : Sheet) (k : ℕ) → k < length (take s.edges s.tails) → {a b : ℕ} → a ≡ get_or (take s.edges s.tails) k 0 → b ≡ get_or (take s.edges s.heads) k 0

@@ -14,7 +14,7 @@ loop-first-init g c = g.met.S.Sink.nothing _
 pub put_ring-requires-clause-inside : goal.put_ring-requires-clause-inside
 put_ring-requires-clause-inside g c =
     let t = c.args.self.now in
-    first_below (sound_of t.sound) t.lowest.0 t.lowest.1 _ c.loop-first-test.true _ c.from.ensures
+    first_below (sound_of t.sound) t.lowest.1 _ (omega (arith, t.lowest.0, c.loop-first-test.true)) _ c.from.ensures
 
 pub put_ring-requires-clause-room : goal.put_ring-requires-clause-room
 put_ring-requires-clause-room g c =
