@@ -68,15 +68,14 @@ impl Sorting {
         ensures queued { Queued graph.now.nodes result.waiting result.queue result.end }
         ensures level { result.level ≡ flat }
     {
-        let waiting = waiting_edges(graph.edges, graph.to);
-        let mut queue = [0u16; 256];
-        let end = sources(graph.nodes, &waiting, &mut queue);
-        Sorting {
-            waiting,
+        let mut sorting = Sorting {
+            waiting: waiting_edges(graph.edges, graph.to),
             level: [0u16; 256],
-            queue,
-            end,
-        }
+            queue: [0u16; 256],
+            end: 0,
+        };
+        sorting.end = sources(graph.nodes, &sorting.waiting, &mut sorting.queue);
+        sorting
     }
 
     // Passes an edge to node w from one of level `row`, if `out` is 1, or none, if it is 0: w is raised above that level, and goes into the queue where

@@ -43,7 +43,7 @@ module _ {n m : ℕ} {tails heads : List ℕ} (few : n ≤ 128) (T : Ends n m ta
     unfolding ring_levels rings_of
     no_rings nexts f = let z = rw (ec, ea) at (rings_refused count at nexts (omega (arith, T.few)) f) in rw (z, and-false (poles_of n m tails heads)) refl
 
-  module _ (r : Darts) (ec : r.count ≡ 2 * m) (ea : r.at ≡ dart_table (vertex_of tails heads) (2 * m)) (D : Degrees r.count r.at r.degree) (E : Held r.count r.at r.held)
+  module _ (r : Darts) (ec : r.count ≡ 2 * m) (ea : r.at.now ≡ dart_table (vertex_of tails heads) (2 * m)) (D : Degrees r.count r.at.now r.degree) (E : Held r.count r.at.now r.held)
       (s : Sorting) (A : Waiting m heads (λ j. true) s.waiting) (Q : Queued n s.waiting s.queue s.end) (z : s.level ≡ flat) where
     begun : Settled (placed ec ea).graph 0 s.waiting s.level s.queue s.end
     begun = rw z (start (placed ec ea).graph A Q)
@@ -56,12 +56,12 @@ module _ {n m : ℕ} {tails heads : List ℕ} (few : n ≤ 128) (T : Ends n m ta
       settled = O.onward (placed ec ea) begun
 
       -- all vertices came into the queue
-      covered : n ≤ s'.end → (d : ℕ) → d < r.count → Covered r.count r.at r.nexts.now r.held d
+      covered : n ≤ s'.end → (d : ℕ) → d < r.count → Covered r.count r.at.now r.nexts.now r.held d
       covered h d l =
           let Q = settled.progress.queued in
           let v = vertex_in (placed ec ea) d l in
-          let t = count_full (ready s'.waiting) n (omega (arith, Q.many)) (get_or r.at d 0) v in
-          let (i, b, q) = Q.all (get_or r.at d 0) v (eqb-true _ _ t) in
+          let t = count_full (ready s'.waiting) n (omega (arith, Q.many)) (get_or r.at.now d 0) v in
+          let (i, b, q) = Q.all (get_or r.at.now d 0) v (eqb-true _ _ t) in
           O.covers i d (omega arith) b l (sym q)
 
       all_rings : n ≤ s'.end → rings_of (2 * m) tails heads r.nexts.now ≡ true

@@ -160,7 +160,7 @@ module _ {r : Darts} {head : ℕ} {s : Sorting} (U : Underway r head s) (h : hea
     level_small = omega (arith, U.settled.progress.low v, U.placed.graph.within.few_edges)
 
     module _ (size : ℕ) (ez : size ≡ get_or r.degree v 0) where
-      pub size_is : size ≡ count (λ d. eqb (get_or r.at d 0) v) r.count
+      pub size_is : size ≡ count (λ d. eqb (get_or r.at.now d 0) v) r.count
       size_is = ez ∙ U.degrees.counts v vertex_small
 
       -- no dart is at v
@@ -173,23 +173,23 @@ module _ {r : Darts} {head : ℕ} {s : Sorting} (U : Underway r head s) (h : hea
         covers = λ i d l m b e. let z : i ≡ head = omega arith in absurd (no_dart d b (e ∙ ap (λ x. get_or s.queue x 0) z ∙ sym ev));
       }
         where
-          no_dart : (d : ℕ) → d < r.count → get_or r.at d 0 ≡ v → ⊥
-          no_dart d l e = omega (arith, size_is, count_without (λ d. eqb (get_or r.at d 0) v) r.count d l (eq-eqb _ _ e))
+          no_dart : (d : ℕ) → d < r.count → get_or r.at.now d 0 ≡ v → ⊥
+          no_dart d l e = omega (arith, size_is, count_without (λ d. eqb (get_or r.at.now d 0) v) r.count d l (eq-eqb _ _ e))
 
       module _ (some : size ≢ 0) (start : ℕ) (es : start ≡ get_or r.held v 0) where
-        pub start_at : (start < r.count) × (get_or r.at start 0 ≡ v)
+        pub start_at : (start < r.count) × (get_or r.at.now start 0 ≡ v)
         start_at =
-            let (d, l, t, _) = count_onto (λ d. eqb (get_or r.at d 0) v) 0 r.count (omega (arith, size_is)) in
+            let (d, l, t, _) = count_onto (λ d. eqb (get_or r.at.now d 0) v) 0 r.count (omega (arith, size_is)) in
             let e = eqb-true _ _ t in
             rw (es, ← e) (U.held_in.some d l)
 
         -- each step puts at most one vertex in the queue
         pub tail_small : {steps end : ℕ} → steps ≤ size → end ≤ s.end + steps → end ≤ 1024
-        tail_small l t = omega (arith, end_small, size_is, count_le (λ d. eqb (get_or r.at d 0) v) r.count, (placed_readable U.placed).few)
+        tail_small l t = omega (arith, end_small, size_is, count_le (λ d. eqb (get_or r.at.now d 0) v) r.count, (placed_readable U.placed).few)
 
         -- its ring is walked
-        pub ring_passed : Round r.count r.at r.nexts.now start v size → {row : ℕ} {s' : Sorting}
-            → ((P : Placed r.count r.at) → Settled P.graph head s.waiting s.level s.queue s.end → Here P r.nexts.now start size size head v row s s')
+        pub ring_passed : Round r.count r.at.now r.nexts.now start v size → {row : ℕ} {s' : Sorting}
+            → ((P : Placed r.count r.at.now) → Settled P.graph head s.waiting s.level s.queue s.end → Here P r.nexts.now start size size head v row s s')
             → PassedOn r head s (head + 1) s'
         ring_passed R {s'} walked =
             let H = walked U.placed U.settled in

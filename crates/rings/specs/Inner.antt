@@ -88,15 +88,15 @@ out_of d = (d + 1) % 2
 
 -- some digraph has these darts, the edges out of the queue's first `head` vertices are passed, and a dart of each vertex is held
 pub record Underway (r : Darts) (head : ℕ) (s : Sorting) : Type 0 where
-  pub placed : Placed r.count r.at
+  pub placed : Placed r.count r.at.now
   pub settled : Settled placed.graph head s.waiting s.level s.queue s.end
-  pub held_in : Held r.count r.at r.held
-  pub degrees : Degrees r.count r.at r.degree
+  pub held_in : Held r.count r.at.now r.held
+  pub degrees : Degrees r.count r.at.now r.degree
 
 -- The darts of the queue's vertices from `head` up to `head'` are on their rings, and the edges out of them are passed: in every digraph with these darts,
 -- if before the edges out of the queue's first `head` vertices were passed, after it those out of its first `head'` are.
 pub record PassedOn (r : Darts) (head : ℕ) (s : Sorting) (head' : ℕ) (s' : Sorting) : Type 0 where
-  pub onward : (P : Placed r.count r.at) → Settled P.graph head s.waiting s.level s.queue s.end → Settled P.graph head' s'.waiting s'.level s'.queue s'.end
+  pub onward : (P : Placed r.count r.at.now) → Settled P.graph head s.waiting s.level s.queue s.end → Settled P.graph head' s'.waiting s'.level s'.queue s'.end
   pub kept : (i : ℕ) → i < s.end → get_or s'.queue i 0 ≡ get_or s.queue i 0
   pub longer : s.end ≤ s'.end
-  pub covers : (i d : ℕ) → head ≤ i → i < head' → d < r.count → get_or r.at d 0 ≡ get_or s'.queue i 0 → Covered r.count r.at r.nexts.now r.held d
+  pub covers : (i d : ℕ) → head ≤ i → i < head' → d < r.count → get_or r.at.now d 0 ≡ get_or s'.queue i 0 → Covered r.count r.at.now r.nexts.now r.held d

@@ -13,11 +13,11 @@ ghost use Rattle.rings.specs.Inner.{head_of, out_of, Readable, Held, Degrees, On
 use clauses::Sheet;
 use digraph::Sorting;
 
-// The darts by their vertices, in fixed memory: the vertex of each, and the next round its vertex; and for each vertex how many darts it has, and one of them.
+// The darts by their vertices, in fixed memory: the vertex of each, and the next round its vertex, both lent; and for each vertex how many darts it has, and one of them.
 #[derive(Clone, Copy)]
 struct Darts<'a> {
     count: usize,
-    at: [u16; 512],
+    at: &'a [u16; 512],
     nexts: &'a [u16; 512],
     degree: [u16; 128],
     held: [u16; 128],
@@ -25,9 +25,9 @@ struct Darts<'a> {
 
 impl<'a> Darts<'a> {
     #[tactic(auto, using(crate::proofs::Rings::at_small))]
-    fn of(count: usize, at: [u16; 512], nexts: &'a [u16; 512]) -> Darts<'a>
-        requires { Readable count at }
-        ensures { (result.count ≡ count) × (result.at ≡ at) × (result.nexts.now ≡ nexts.now) × Degrees result.count result.at result.degree × Held result.count result.at result.held }
+    fn of(count: usize, at: &'a [u16; 512], nexts: &'a [u16; 512]) -> Darts<'a>
+        requires { Readable count at.now }
+        ensures { (result.count ≡ count) × (result.at.now ≡ at.now) × (result.nexts.now ≡ nexts.now) × Degrees result.count result.at.now result.degree × Held result.count result.at.now result.held }
     {
         let mut degree = [0u16; 128];
         let mut held = [0u16; 128];
@@ -48,8 +48,8 @@ impl<'a> Darts<'a> {
     // Whether vertex 0 is the only one of n with no edge into it, and vertex 1 the only one with none out of it: such a vertex has as many darts as edges into
     // it. `into` has how many lead into each. All are looked at, which takes no branch.
     fn has_poles(&self, n: usize, into: &[u16; 256]) -> bool
-        requires { (n ≤ 128) × Degrees self.now.count self.now.at self.now.degree }
-        ensures { (P : Placed self.now.count self.now.at) → Waiting P.edges P.to (λ j. true) into.now → result ≡ poles_of n P.edges P.graph.from P.to }
+        requires { (n ≤ 128) × Degrees self.now.count self.now.at.now self.now.degree }
+        ensures { (P : Placed self.now.count self.now.at.now) → Waiting P.edges P.to (λ j. true) into.now → result ≡ poles_of n P.edges P.graph.from P.to }
     {
         let mut only = true;
         for (v, &edges_in) in into[..n].iter().enumerate() {
@@ -61,8 +61,8 @@ impl<'a> Darts<'a> {
 
     // Passes the edge of dart d, if the dart is at its tail, in a walk round a vertex of level `row`. No branch hangs on the dart.
     fn pass_dart(&self, d: usize, row: u16, sorting: &mut Sorting)
-        requires { (d < 512) × (head_of self.now.at d < 256) × (row ≤ 256) × (sorting.old.end ≤ 1024) }
-        ensures { Stepped (head_of self.now.at d) row (out_of d) sorting.old sorting.new }
+        requires { (d < 512) × (head_of self.now.at.now d < 256) × (row ≤ 256) × (sorting.old.end ≤ 1024) }
+        ensures { Stepped (head_of self.now.at.now d) row (out_of d) sorting.old sorting.new }
     {
         let out = ((d + 1) % 2) as u16;
         sorting.pass(usize::from(self.at[d / 2 * 2 + 1]), row, out);
@@ -74,7 +74,7 @@ impl<'a> Darts<'a> {
     fn pass(&self, head: usize, sorting: &mut Sorting) -> bool
         requires { (head < sorting.old.end) × Underway self.now head sorting.old }
         ensures rings { result ≡ true → PassedOn self.now head sorting.old (head + 1) sorting.new }
-        ensures none { result ≡ false → ¬ OneRingEach self.now.count self.now.at self.now.nexts.now }
+        ensures none { result ≡ false → ¬ OneRingEach self.now.count self.now.at.now self.now.nexts.now }
     {
         let v = usize::from(sorting.queue[head]);
         let size = usize::from(self.degree[v]);
@@ -101,7 +101,7 @@ impl<'a> Darts<'a> {
     fn settle(&self, sorting: &mut Sorting) -> bool
         requires { Underway self.now 0 sorting.old }
         ensures rings { result ≡ true → PassedOn self.now 0 sorting.old sorting.new.end sorting.new }
-        ensures none { result ≡ false → ¬ OneRingEach self.now.count self.now.at self.now.nexts.now }
+        ensures none { result ≡ false → ¬ OneRingEach self.now.count self.now.at.now self.now.nexts.now }
     {
         let mut head = 0;
         while head < sorting.end {
@@ -120,7 +120,8 @@ pub fn levels(s: &Sheet) -> Option<[u16; 256]>
     requires { (s.now.vertices ≤ 128) × Ends s.now.vertices s.now.edges s.now.tails × Ends s.now.vertices s.now.edges s.now.heads }
     ensures { result ≡ found (ring_levels s.now.vertices s.now.edges s.now.tails s.now.heads s.now.nexts) }
 {
-    let darts = Darts::of(2 * s.edges, s.places(), &s.nexts);
+    let at = s.places();
+    let darts = Darts::of(2 * s.edges, &at, &s.nexts);
     let mut sorting = Sorting::start(&s.digraph());
     if !darts.has_poles(s.vertices, &sorting.waiting) {
         return None;

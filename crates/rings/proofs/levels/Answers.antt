@@ -7,7 +7,7 @@ use Rattle.rings.proofs.levels.Goals as goal
 pub of-darts-requires : goal.of-darts-requires
 of-darts-requires c =
     let (few, T, H) = c.requires in
-    placed_readable (placed few T H refl c.places.ensures)
+    placed_readable (placed few T H refl c.places-at.ensures)
 
 pub start-sorting-requires : goal.start-sorting-requires
 start-sorting-requires c =
@@ -23,7 +23,7 @@ returns-then-not-has_poles c =
     let (few, T, H) = c.requires in
     let (_, gm, _, gt) = c.digraph.ensures in
     let (ec, ea, _, _, _) = c.of-darts.ensures in
-    let here = c.has_poles.ensures (placed few T H ec (ea ∙ c.places.ensures)) (rw (gm, gt) at c.start-sorting.ensures.waiting) in
+    let here = c.has_poles.ensures (placed few T H ec (ea ∙ c.places-at.ensures)) (rw (gm, gt) at c.start-sorting.ensures.waiting) in
     no_poles _ _ _ _ _ (sym here ∙ c.if-not-has_poles.true)
 
 pub settle-requires : goal.settle-requires
@@ -32,13 +32,13 @@ settle-requires c =
     let (gn, gm, _, gt) = c.digraph.ensures in
     let (ec, ea, en, D, E) = c.of-darts.ensures in
     let s = c.start-sorting.ensures in
-    underway few T H _ ec (ea ∙ c.places.ensures) D E _ (rw (gm, gt) at s.waiting) (rw gn at s.queued) s.level
+    underway few T H _ ec (ea ∙ c.places-at.ensures) D E _ (rw (gm, gt) at s.waiting) (rw gn at s.queued) s.level
 
 pub returns-then-not-settle : goal.returns-then-not-settle
 returns-then-not-settle c =
     let (few, T, H) = c.requires in
     let (ec, ea, en, D, E) = c.of-darts.ensures in
-    rw en at (no_rings few T H ec (ea ∙ c.places.ensures) _ (c.settle.ensures.none c.if-not-settle.true))
+    rw en at (no_rings few T H ec (ea ∙ c.places-at.ensures) _ (c.settle.ensures.none c.if-not-settle.true))
 
 pub returns : goal.returns
 returns c =
@@ -47,7 +47,7 @@ returns c =
     let (ec, ea, en, D, E) = c.of-darts.ensures in
     let s = c.start-sorting.ensures in
     let W = rw (gm, gt) at s.waiting in
-    let here = c.has_poles.ensures (placed few T H ec (ea ∙ c.places.ensures)) W in
+    let here = c.has_poles.ensures (placed few T H ec (ea ∙ c.places-at.ensures)) W in
     let O = c.settle.ensures.rings c.if-not-settle.false in
     c.then_some.ensures
-    ∙ rw en at (answer few T H c.of-darts.result ec (ea ∙ c.places.ensures) D E c.start-sorting.result W (rw gn at s.queued) s.level c.settle.new.sorting O (sym here ∙ c.if-not-has_poles.false))
+    ∙ rw en at (answer few T H c.of-darts.result ec (ea ∙ c.places-at.ensures) D E c.start-sorting.result W (rw gn at s.queued) s.level c.settle.new.sorting O (sym here ∙ c.if-not-has_poles.false))

@@ -11,8 +11,8 @@ invariant-loop-step l =
     let r = l.self in
     let s = l.initial.sorting in
     record {
-      going : Going r.count r.at r.nexts.now l.start l.v l.d (l.step - 1);
+      going : Going r.count r.at.now r.nexts.now l.start l.v l.d (l.step - 1);
       end_in : l.sorting.end < s.end + l.step;
-      here : Round r.count r.at r.nexts.now l.start l.v l.size → (P : Placed r.count r.at) → Settled P.graph l.head s.waiting s.level s.queue s.end
+      here : Round r.count r.at.now r.nexts.now l.start l.v l.size → (P : Placed r.count r.at.now) → Settled P.graph l.head s.waiting s.level s.queue s.end
           → Here P r.nexts.now l.start l.size (l.step - 1) l.head l.v l.row s l.sorting;
     }
