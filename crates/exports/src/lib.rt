@@ -245,7 +245,7 @@ fn put_loaded(
 ) -> u16
     ensures { Parts answer (sheet_of vertices.old edges.old tails.old heads.old nexts.old) result vertices.new edges.new tails.new heads.new nexts.new taken.new }
 {
-    // Refused, the present sheet comes back: the parts keep it, and nothing is copied.
+    // Refused, the present sheet comes back: the parts keep it.
     match answer {
         Ok(loaded) => {
             put_parts(loaded.sheet, vertices, edges, tails, heads, nexts);
@@ -359,7 +359,7 @@ pub extern "C" fn walnut_edit(
 ) -> u16
     ensures { Changed (edit_by kind a p b q (sheet_of vertices.old edges.old tails.old heads.old nexts.old)) (sheet_of vertices.old edges.old tails.old heads.old nexts.old) result vertices.new edges.new tails.new heads.new nexts.new }
 {
-    // A refused edit hands back what it got: the parts keep it, and nothing is copied.
+    // A refused edit hands back what it got: the parts keep it.
     let present = sheet_of(*vertices, *edges, tails, heads, nexts);
     let edited = edit_by(kind, present, a, p, b, q);
     match edited {
